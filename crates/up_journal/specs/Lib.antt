@@ -1,0 +1,10 @@
+pub mod Written
+pub mod Attempts
+pub mod Size
+pub mod Value
+pub mod Roles
+pub mod Asks
+pub mod Packets
+pub mod Tickets
+pub mod Reply
+pub mod Legal

@@ -1,0 +1,9 @@
+//! The journal of an object: the entries that its calls leave, the log that keeps them, and (in `specs/`)
+//! the definitions that say what each call answers after a journal.
+#![tactic(auto)]
+
+mod entry;
+mod log;
+
+pub use entry::{Birth, Brought, Call, Entries, Entry, HintKind, Reply, Role, Told};
+pub use log::Log;

@@ -1,0 +1,14 @@
+//! The plain types that every crate of the pager shares: page numbers and ranges, refusals, packets,
+//! outcomes, and the list type.
+#![tactic(auto)]
+
+mod answers;
+mod items;
+mod pages;
+
+pub use answers::{AskKind, Code, Outcome, Packet, PageState, Refusal};
+pub use items::{Bytes, Items, PageSeq, RangeSeq, Woken};
+pub use pages::{DirtyRange, PageNo, PageRange, Piece};
+
+/// Want of memory: the one answer that every call which allocates may give.
+pub type Memory = std::alloc::AllocError;
