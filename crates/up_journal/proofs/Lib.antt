@@ -1,2 +1,4 @@
 mod Rows
+pub mod Tests
 pub mod Waiting
+pub mod Holding

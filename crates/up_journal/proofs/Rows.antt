@@ -1,16 +1,16 @@
 -- Small journals at which the definitions are computed: each line holds by computation alone. Journals are written
 -- newest entry first.
-use Rattle.std.specs.Prelude.{◌≡◌, ℕ, Bool, true, false, Option, Some, None, List, [], ◌∷◌, replicate, refl}
+use Rattle.std.specs.Prelude.{◌≡◌, ℕ, true, false, Some, None, List, [], ◌∷◌, replicate, refl}
 use Rattle.up_num.specs.declared.answers.AskKind.TheVariants.{Read as ReadAsk}
 use Rattle.up_num.specs.declared.answers.Outcome.TheVariants.{Waiting, Freed}
 use Rattle.up_num.specs.declared.answers.Packet.TheVariants.{Read as ReadPacket}
 use Rattle.up_num.specs.declared.answers.Refusal.TheVariants.{Range, NoFrames}
-use Rattle.up_journal.specs.Attempts.{Access, parked}
+use Rattle.up_journal.specs.Attempts.{parked}
 use Rattle.up_journal.specs.Size.{size, range_fits}
 use Rattle.up_journal.specs.Value.{value, there, missing}
 use Rattle.up_journal.specs.Roles.{users, detached}
-use Rattle.up_journal.specs.Asks.{Ask, asked, want}
-use Rattle.up_journal.specs.Packets.{runs, sent, taken}
+use Rattle.up_journal.specs.Asks.{asked, want}
+use Rattle.up_journal.specs.Packets.{sent, taken}
 use Rattle.up_journal.specs.Tickets.{next_ticket, owner, spent, outcome, woken}
 use Rattle.up_journal.specs.Reply.{proper, reply}
 use Rattle.up_journal.specs.Legal.{Legal}

@@ -1,16 +1,13 @@
 -- Laws on accesses that wait.
-use Rattle.std.proofs.Common.{◌≡◌, ℕ, ◌+◌, ◌%◌, ◌<◌, ◌≤◌, ◌&&◌, Bool, true, false, cond, Option, Some, None, List, [], ◌∷◌, IsTrue, nat_le, nat_lt, refl, ap, sym, ◌∙◌, subst, arith, inl, inr}
+use Rattle.std.proofs.Common.{◌≡◌, ℕ, true, false, cond, Some, None, List, [], ◌∷◌, subst}
 use Rattle.up_journal.specs.Attempts.{Access, attempt_of, parked, blocks}
 use Rattle.up_journal.specs.Reply.{within_page, proper}
 use Rattle.up_journal.specs.Legal.{Legal}
+use Rattle.up_journal.proofs.Tests.{and_left}
 use Rattle.up_journal.specs.declared.entry.Birth.{Birth}
 use Rattle.up_journal.specs.declared.entry.Entry.{Entry}
 use Rattle.up_journal.specs.declared.entry.Call.{Call}
 use Rattle.up_journal.specs.declared.entry.Call.TheVariants.{Read, Write, Retry}
-
-and_left : (a b : Bool) → (a && b) ≡ true → a ≡ true
-and_left true b p = refl
-and_left false b p = p
 
 -- what a proper call attempts lies within a page, where that holds of what waits already
 attempt_within : (before : List Entry) (who : ℕ) (call : Call) (a : Access) → ((t : ℕ) (x : Access) → parked before t ≡ Some x → within_page x.off x.len ≡ true) →

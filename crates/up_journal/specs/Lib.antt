@@ -6,5 +6,7 @@ pub mod Roles
 pub mod Asks
 pub mod Packets
 pub mod Tickets
+pub mod Parked
 pub mod Reply
 pub mod Legal
+pub mod Laws

@@ -3,6 +3,7 @@
 #![tactic(auto)]
 
 mod entry;
+pub mod laws;
 mod log;
 
 pub use entry::{Birth, Brought, Call, Entries, Entry, HintKind, Reply, Role, Told};

@@ -1,6 +1,5 @@
 -- What the calls owe to the changes that they make.
 use Rattle.std.proofs.Common.{◌≡◌, ℕ, ◌+◌, ◌*◌, ◌<◌, ◌&&◌, ◌||◌, ◌==◌, Bool, true, false, cond, Some, is_some, List, ◌∷◌, length, slice_index, refl, ap, sym, ◌∙◌, arith}
-use Rattle.std.proofs.lemmas.Bool.Decides.{nat_tests}
 use Rattle.up_num.specs.Span.{Span}
 use Rattle.up_num.specs.declared.answers.AskKind.{AskKind}
 use Rattle.up_num.specs.declared.answers.AskKind.TheVariants.{Read as ReadAsk, Dirty as DirtyAsk}
@@ -12,15 +11,12 @@ use Rattle.up_journal.specs.Asks.{resolves}
 use Rattle.up_journal.specs.Tickets.{next_ticket, spent, keeps_ticket, woken}
 use Rattle.up_journal.specs.Reply.{proper}
 use Rattle.up_journal.specs.declared.entry.Reply.TheVariants.{Took}
+use Rattle.up_journal.proofs.Tests.{and_true, nat_eq_true}
 use Rattle.up_journal.specs.declared.entry.Birth.{Birth}
 use Rattle.up_journal.specs.declared.entry.Entry.{Entry}
 use Rattle.up_state.specs.Asking.{event_of}
 use Rattle.up_state.specs.Calls.{retry_call, supply_call, supply_event}
 use Rattle.up_state.specs.Change.{Spends, Fills, SamePage, IsDue}
-
-and_true : (b : Bool) → (b && true) ≡ b
-and_true true = refl
-and_true false = refl
 
 -- a retry that doesn't keep its ticket spends it
 pub spends_by : (e : Entry) (h : List Entry) (ticket : ℕ) → e.call ≡ retry_call ticket → keeps_ticket e.reply ≡ false → ticket < next_ticket h → Spends e h ticket
@@ -63,9 +59,6 @@ supply_due birth birth' h h' e who epoch range bytes pages woke b j entry first 
 
 pub missing_there : (birth : Birth) (h : List Entry) (b : Bool) → there birth h 0 ≡ b → missing birth h 0 1 ≡ cond b 0 1
 missing_there birth h b is = rw is refl
-
-nat_eq_true : (m n : ℕ) → (m == n) ≡ true → m ≡ n
-nat_eq_true m n p = grind (arith, nat_tests)
 
 -- a proper supply of page 0 has a page's bytes
 pub supply_whole : (h : List Entry) (who : ℕ) (range : Span) (bytes : List ℕ) → range ≡ record { first = 0; count = 1 } →
