@@ -1,5 +1,5 @@
 -- A retry that is answered for good spends its ticket.
-use Rattle.std.proofs.Common.{◌≡◌, ℕ, ◌<◌, ◌||◌, ◌==◌, Bool, true, false, Some, List, [], ◌∷◌, length, zero, suc, slice_get, slice_set, option_map, refl, ap, sym, ◌∙◌, arith}
+use Rattle.std.proofs.Common.{length-set, ◌≡◌, ℕ, ◌<◌, ◌||◌, ◌==◌, Bool, true, false, Some, List, [], ◌∷◌, length, zero, suc, slice_get, slice_set, option_map, refl, ap, sym, ◌∙◌, arith}
 use Rattle.up_journal.specs.declared.entry.Birth.{Birth}
 use Rattle.up_journal.specs.declared.entry.Entry.{Entry}
 use Rattle.up_state.specs.declared.asking.Ticket.{Ticket}
@@ -11,11 +11,6 @@ use Rattle.up_state.proofs.Lists.{at_set-same, is_item, zero_is_no_suc, suc_is_n
 
 abbrev marked : Ticket → Ticket
 marked ticket = record ticket { spent = true }
-
-length-set : {X : Type 0} (xs : List X) (n : ℕ) (x : X) → length (slice_set xs n x) ≡ length xs
-length-set [] n x = refl
-length-set (y ∷ ys) zero x = refl
-length-set (y ∷ ys) (suc n) x = ap suc (length-set ys n x)
 
 spent_marked : (tickets : List Ticket) (n : ℕ) (ticket : Ticket) (t : ℕ) → n < length tickets →
     spent_in (slice_get (slice_set tickets n (marked ticket)) t) ≡ ((n == t) || spent_in (slice_get tickets t))

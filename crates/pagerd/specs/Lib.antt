@@ -1,0 +1,5 @@
+pub mod Text
+pub mod Steps
+pub mod Stage
+pub mod Standing
+pub mod Top

@@ -1,0 +1,167 @@
+use crate::top::alone;
+use std::alloc::Global;
+use std::process::Abort;
+use std::test::Fail;
+use up_outside::{MemSink, MemSource, PlainSource};
+
+/// The lines before the action lines.
+const HEAD: &str =
+    "pagerd-script 1\nframes 8\nobject a 1 - free -\nuser u a\nuser v a\npager p a\nevictor e\nsteps\n";
+/// A blocked read, its packet, the supply and the go.
+const FIRST: &str = "u read a 0 1\np packet a\np supply a 0 1 61*4096\nu go\n";
+/// The journal's lines before its entries.
+const TOP: &str = "pagerd-journal 1\njournal a 1 - free 2 1 -\n";
+/// The whole output of the first script.
+const FIRST_JOURNAL: &str =
+    "pagerd-journal 1\njournal a 1 - free 2 1 -\n0 0 0 read 0 1 0 - -> blocked 0\n1 2 0 packet -> packet read 0 1\n2 2 0 supply 0 1 61*4096 f1 -> took 1 woke 0\n3 0 0 retry 0 - -> bytes 61*1\nend 4\ndone\n";
+
+fn step_words(alloc: Global) -> Result<Vec<String>, Fail> {
+    let mut words = Vec::new(alloc);
+    words.push(String::from_str(alloc, "step")?)?;
+    Ok(words)
+}
+
+/// Does the action lines by `step` and compares the journal's entries, behind its first two lines.
+fn check_lines(rt: &impl Abort, alloc: Global, lines: &str, rest: &str) -> Result<(), Fail> {
+    let script = format!(in alloc; "{HEAD}{lines}")?;
+    let expected = format!(in alloc; "{TOP}{rest}")?;
+    let mut source = PlainSource::new(alloc, script.as_bytes())?;
+    let mut sink = MemSink::new(alloc, &[], 100_000)?;
+    let status = alone(alloc, step_words(alloc)?.as_slice(), &mut source, &mut sink);
+    assert_eq!(rt; status, 0, "{lines}");
+    assert!(rt; sink.written() == expected.as_bytes(), "{lines}");
+    Ok(())
+}
+
+#[test]
+fn the_first_script_prints_its_journal(rt: HostRuntime) -> Result<(), Fail> {
+    let alloc = rt.alloc();
+    let script = format!(in alloc; "{HEAD}{FIRST}")?;
+    let mut source = MemSource::new(alloc, script.as_bytes(), &[], 100)?;
+    let mut sink = MemSink::new(alloc, &[], 100_000)?;
+    let status = alone(alloc, step_words(alloc)?.as_slice(), &mut source, &mut sink);
+    assert_eq!(rt; status, 0);
+    assert!(rt; sink.written() == FIRST_JOURNAL.as_bytes());
+    Ok(())
+}
+
+#[test]
+fn scripts_print_their_entries(rt: HostRuntime) -> Result<(), Fail> {
+    let alloc = rt.alloc();
+    let rows = [
+        ("", "end 0\ndone\n"),
+        (
+            "u read a 4096 1\n",
+            "0 0 0 read 4096 1 1 - -> refused range\nend 1\ndone\n",
+        ),
+        (
+            "u read a 0 1\nu go\n",
+            "0 0 0 read 0 1 0 - -> blocked 0\n1 0 0 retry 0 - -> waiting\nend 2\ndone\n",
+        ),
+        // A go of an actor that doesn't wait does nothing, and an evictor never waits.
+        (
+            "u go\ne go\np packet a\n",
+            "0 2 0 packet -> empty\nend 1\ndone\n",
+        ),
+        // A page that is there stays, and a supply past the end is refused.
+        (
+            "p supply a 0 1 61*4096\np supply a 0 1 62*4096\nu read a 4095 1\np supply a 1 1 61*4096\n",
+            "0 2 0 supply 0 1 61*4096 f1 -> took 1 woke -\n1 2 0 supply 0 1 62*4096 f1 -> took 0 woke -\n2 0 0 read 4095 1 0 - -> bytes 61*1\n3 2 0 supply 1 1 61*4096 f1 -> refused range\nend 4\ndone\n",
+        ),
+        // Two wait, one packet is sent; the lines of an actor that waits are done when it goes on.
+        (
+            "u read a 0 2\nv read a 1 1\nu read a 2 1\np packet a\np packet a\np supply a 0 1 61*1+62*4095\nu go\nv go\n",
+            "0 0 0 read 0 2 0 - -> blocked 0\n1 1 0 read 1 1 0 - -> blocked 1\n2 2 0 packet -> packet read 0 1\n3 2 0 packet -> empty\n4 2 0 supply 0 1 61*1+62*4095 f1 -> took 1 woke 0,1\n5 0 0 retry 0 - -> bytes 61*1+62*1\n6 0 0 read 2 1 0 - -> bytes 62*1\n7 1 0 retry 1 - -> bytes 62*1\nend 8\ndone\n",
+        ),
+        (
+            "u read a 8796093022208 1\n",
+            "0 0 0 read 8796093022208 1 2147483648 - -> refused range\nend 1\ndone\n",
+        ),
+    ];
+    for (lines, rest) in rows {
+        check_lines(&rt, alloc, lines, rest)?;
+    }
+    Ok(())
+}
+
+#[test]
+fn other_words_are_told(rt: HostRuntime) -> Result<(), Fail> {
+    let alloc = rt.alloc();
+    for line in ["", "steps", "run", "step x", "check", "gen 7 1", "--help"] {
+        let mut words = Vec::new(alloc);
+        for word in line.split_whitespace() {
+            words.push(String::from_str(alloc, word)?)?;
+        }
+        // A source that fails at once shows that it isn't read.
+        let mut source = MemSource::new(alloc, HEAD.as_bytes(), &[1], 100)?;
+        let mut sink = MemSink::new(alloc, &[], 100)?;
+        let status = alone(alloc, words.as_slice(), &mut source, &mut sink);
+        assert_eq!(rt; status, 2, "{line}");
+        assert!(rt; sink.written() == b"words\n".as_slice(), "{line}");
+    }
+    Ok(())
+}
+
+#[test]
+fn another_text_is_unbuilt(rt: HostRuntime) -> Result<(), Fail> {
+    let alloc = rt.alloc();
+    for lines in [
+        "u write a 0 41*1\n",
+        "u read a 0 1",
+        "\n",
+        "e age\n",
+        "u read a 0 0\n",
+    ] {
+        let script = format!(in alloc; "{HEAD}{lines}")?;
+        let mut source = PlainSource::new(alloc, script.as_bytes())?;
+        let mut sink = MemSink::new(alloc, &[], 100)?;
+        let status = alone(alloc, step_words(alloc)?.as_slice(), &mut source, &mut sink);
+        assert_eq!(rt; status, 3, "{lines}");
+        assert!(rt;
+            sink.written() == b"fault 0 unbuilt\n".as_slice(),
+            "{lines}"
+        );
+    }
+    Ok(())
+}
+
+/// The script by a source that gives one byte a call, and fails at this call.
+#[test]
+fn a_source_that_fails_is_status_4(rt: HostRuntime) -> Result<(), Fail> {
+    let alloc = rt.alloc();
+    let script = format!(in alloc; "{HEAD}{FIRST}")?;
+    // A call for each byte, and one that finds the end.
+    let last = script.len() as u32 + 1;
+    for (fail, expected) in [(1, 4), (last / 2, 4), (last, 4), (last + 1, 0)] {
+        let mut source = MemSource::new(alloc, script.as_bytes(), &[fail], 1000)?.by_byte();
+        let mut sink = MemSink::new(alloc, &[], 1000)?;
+        let status = alone(alloc, step_words(alloc)?.as_slice(), &mut source, &mut sink);
+        assert_eq!(rt; status, expected, "{fail}");
+        if expected == 4 {
+            assert!(rt; sink.written().is_empty(), "{fail}");
+        } else {
+            assert!(rt; sink.written() == FIRST_JOURNAL.as_bytes(), "{fail}");
+        }
+    }
+    Ok(())
+}
+
+/// A sink that takes one byte a call, and fails at this call.
+#[test]
+fn a_sink_that_fails_is_status_5(rt: HostRuntime) -> Result<(), Fail> {
+    let alloc = rt.alloc();
+    let script = format!(in alloc; "{HEAD}{FIRST}")?;
+    let last = FIRST_JOURNAL.len();
+    for (fail, expected) in [(1, 5), (last / 2, 5), (last, 5), (last + 1, 0)] {
+        let mut source = PlainSource::new(alloc, script.as_bytes())?;
+        let mut sink = MemSink::new(alloc, &[fail as u32], 1000)?.by_byte();
+        let status = alone(alloc, step_words(alloc)?.as_slice(), &mut source, &mut sink);
+        assert_eq!(rt; status, expected, "{fail}");
+        assert_eq!(rt; sink.written().len(), (fail - 1).min(last), "{fail}");
+        assert!(rt;
+            FIRST_JOURNAL.as_bytes().starts_with(sink.written()),
+            "{fail}"
+        );
+    }
+    Ok(())
+}

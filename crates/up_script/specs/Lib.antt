@@ -1,0 +1,10 @@
+pub mod Steps
+pub mod Words
+pub mod Numbers
+pub mod Runs
+pub mod Actors
+pub mod Declarations
+pub mod Actions
+pub mod Built
+pub mod Reading
+pub mod Laws

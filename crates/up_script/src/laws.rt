@@ -1,0 +1,14 @@
+//! What the definitions of reading say, apart from how a text is read.
+
+ghost use Rattle.up_script.specs.Laws.{ReadsDecimal, ReadsOnlyDecimal, JoinsWords};
+
+/// A number is read from its decimal text, and from no other.
+pub fn numbers_are_decimal()
+    ensures back { ReadsDecimal }
+    ensures only { ReadsOnlyDecimal }
+{}
+
+/// The words of a line give the line back.
+pub fn words_join_to_their_line()
+    ensures { JoinsWords }
+{}
