@@ -5,7 +5,7 @@ use Rattle.up_journal.specs.Parked.{retried, waits_under}
 use Rattle.up_journal.specs.declared.entry.Brought.TheVariants.{Nothing}
 use Rattle.up_journal.specs.declared.entry.Call.TheVariants.{Retry}
 use Rattle.up_journal.specs.declared.entry.Entry.{Entry}
-use Rattle.up_journal.proofs.Tests.{and_left, and_right, not_true, nat_eq_true, nat_eq-same, differ}
+use Rattle.up_journal.proofs.Bools.{and_left, and_right, not_true, nat_eq_true, nat_eq-same, differ}
 use Rattle.up_script.specs.Built.{is_built_action, is_built_line, are_built}
 use Rattle.up_script.specs.declared.script.Line.{Line}
 use Rattle.pagerd.specs.Steps.{is_go, acts, call_of, calls_of, begun, Block, IsNext, LineDone, Steps}

@@ -12,7 +12,7 @@ use Rattle.up_script.specs.Built.{is_built_action}
 use Rattle.up_script.specs.declared.script.Action.{Action}
 use Rattle.up_script.specs.declared.script.Action.TheVariants.{Go, Read, Act}
 use Rattle.pagerd.specs.Steps.{is_go, call_of}
-use Rattle.up_journal.proofs.Tests.{and_right, differ}
+use Rattle.up_journal.proofs.Bools.{and_right, differ}
 use Rattle.up_state.proofs.Lists.{slice_get-push, zero_is_no_suc, suc_is_not_zero, same_suc}
 use Rattle.pagerd.specs.Standing.{StandsFor}
 

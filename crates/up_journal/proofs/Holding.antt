@@ -12,7 +12,7 @@ use Rattle.up_journal.specs.Tickets.{next_ticket, owner, spent, retries, keeps_t
 use Rattle.up_journal.specs.Parked.{retried, waits_after, waits_under}
 use Rattle.up_journal.specs.Reply.{proper, is_by, reply, access_reply, retry_reply, packet_reply}
 use Rattle.up_journal.specs.Legal.{Legal}
-use Rattle.up_journal.proofs.Tests.{and_left, and_right, not_true, and_false, nat_eq_true, nat_eq-same, differ}
+use Rattle.up_journal.proofs.Bools.{and_left, and_right, not_true, and_false, nat_eq_true, nat_eq-same, differ}
 use Rattle.up_journal.specs.declared.entry.Birth.{Birth}
 use Rattle.up_journal.specs.declared.entry.Entry.{Entry}
 use Rattle.up_journal.specs.declared.entry.Brought.TheVariants.{Nothing}

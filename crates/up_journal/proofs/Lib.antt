@@ -1,4 +1,4 @@
 mod Rows
-pub mod Tests
+pub mod Bools
 pub mod Waiting
 pub mod Holding

@@ -3,7 +3,7 @@ use Rattle.std.proofs.Common.{◌≡◌, ℕ, true, false, cond, Some, None, Lis
 use Rattle.up_journal.specs.Attempts.{Access, attempt_of, parked, blocks}
 use Rattle.up_journal.specs.Reply.{within_page, proper}
 use Rattle.up_journal.specs.Legal.{Legal}
-use Rattle.up_journal.proofs.Tests.{and_left}
+use Rattle.up_journal.proofs.Bools.{and_left}
 use Rattle.up_journal.specs.declared.entry.Birth.{Birth}
 use Rattle.up_journal.specs.declared.entry.Entry.{Entry}
 use Rattle.up_journal.specs.declared.entry.Call.{Call}

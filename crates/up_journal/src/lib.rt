@@ -5,6 +5,8 @@
 mod entry;
 pub mod laws;
 mod log;
+#[cfg(test)]
+mod tests;
 
 pub use entry::{Birth, Brought, Call, Entries, Entry, HintKind, Reply, Role, Told};
 pub use log::Log;

@@ -5,6 +5,8 @@
 mod answers;
 mod items;
 mod pages;
+#[cfg(test)]
+mod tests;
 
 pub use answers::{AskKind, Code, Outcome, Packet, PageState, Refusal};
 pub use items::{Bytes, Items, PageSeq, RangeSeq, Woken};

@@ -11,7 +11,7 @@ use Rattle.up_journal.specs.Asks.{resolves}
 use Rattle.up_journal.specs.Tickets.{next_ticket, spent, keeps_ticket, woken}
 use Rattle.up_journal.specs.Reply.{proper}
 use Rattle.up_journal.specs.declared.entry.Reply.TheVariants.{Took}
-use Rattle.up_journal.proofs.Tests.{and_true, nat_eq_true}
+use Rattle.up_journal.proofs.Bools.{and_true, nat_eq_true}
 use Rattle.up_journal.specs.declared.entry.Birth.{Birth}
 use Rattle.up_journal.specs.declared.entry.Entry.{Entry}
 use Rattle.up_state.specs.Asking.{event_of}

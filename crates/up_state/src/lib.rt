@@ -9,6 +9,8 @@ mod object;
 mod page;
 mod pager;
 pub mod parts;
+#[cfg(test)]
+mod tests;
 
 pub use asking::{Event, Ticket};
 pub use fault::{retry, touch};

@@ -1,7 +1,7 @@
 use Rattle.std.proofs.Common.{◌≡◌, length, true, ap, sym, ◌∙◌, subst, List, ℕ}
 use Rattle.std.proofs.lemmas.List.{length-replicate}
 use Rattle.up_script.specs.declared.script.Line.{Line}
-use Rattle.up_journal.proofs.Tests.{and_right}
+use Rattle.up_journal.proofs.Bools.{and_right}
 use Rattle.up_script.specs.Built.{are_built}
 use Rattle.pagerd.specs.Stage.{Staged}
 use Rattle.pagerd.proofs.steps.journal_of.Goals as goal

@@ -2,7 +2,7 @@ use Rattle.std.proofs.Common.{◌≡◌, ◌<◌, length, Some, None, true, slic
 use Rattle.std.proofs.lemmas.Option.{slice_get_read}
 use Rattle.up_journal.specs.Parked.{waits_under}
 use Rattle.up_script.specs.Built.{is_built_action}
-use Rattle.up_journal.proofs.Tests.{and_right}
+use Rattle.up_journal.proofs.Bools.{and_right}
 use Rattle.pagerd.proofs.Blocks.{goes_past, built_line, no_ticket}
 use Rattle.pagerd.proofs.steps.Stage.go_on.Goals as goal
 
