@@ -8,7 +8,7 @@ use Rattle.up_journal.specs.declared.entry.Entry.{Entry}
 use Rattle.up_journal.proofs.Bools.{and_left, and_right, not_true, nat_eq_true, nat_eq-same, differ}
 use Rattle.up_script.specs.Built.{is_built_action, is_built_line, are_built}
 use Rattle.up_script.specs.declared.script.Line.{Line}
-use Rattle.pagerd.specs.Steps.{is_go, acts, call_of, calls_of, begun, Block, IsNext, LineDone, Steps}
+use Rattle.pagerd.specs.Steps.{is_go, acts, call_of, calls_of, begun, ticket_to_retry, Block, IsNext, LineDone, Steps}
 use Rattle.pagerd.specs.Stage.{Staged, entry_of, Passed, Acted, Began, Did, Paced, GoesOn, WentOn}
 use Rattle.pagerd.proofs.Staging.{built_no_retry}
 
@@ -55,9 +55,9 @@ begun_other e h who other = rw other refl
 pub begun_retry : (e : Entry) (h : List Entry) (who ticket : ℕ) → retried e.call ≡ Some ticket → begun (e ∷ h) who ≡ begun h who
 begun_retry e h who ticket some = rw some (elim (e.who == who) as (λ b. cond (b && false) (suc (begun h who)) (begun h who) ≡ begun h who) [ true ↦ refl | false ↦ refl ])
 
-pub block_start : (lines : List Line) (go : Bool) (who : ℕ) (h : List Entry) → Block lines go h who h
-block_start lines go who [] = refl
-block_start lines go who (e ∷ before) = inl refl
+pub block_start : (lines : List Line) (who : ℕ) (h : List Entry) → Block lines who h h
+block_start lines who [] = refl
+block_start lines who (e ∷ before) = inl refl
 
 -- the paces after one actor is done to line `next`
 paced_set : (lines : List Line) (end who next : ℕ) (h new : List Entry) (done to : List ℕ) → Paced lines end done h → who < length done → next ≤ end → to ≡ slice_set done who next →
@@ -82,12 +82,12 @@ paced_set lines end who next h new done to s known low set mine others = rw set 
 mine_at : (lines : List Line) (who end at : ℕ) (old new : Staged) → GoesOn lines who end at old new → who < length new.done → begun new.journal who ≡ length (calls_of (take at lines) who)
 mine_at lines who end at old new g known = g.paced.pace who known ∙ ap (λ (n : ℕ). length (calls_of (take n lines) who)) g.here
 
-next_entry : (lines : List Line) (go : Bool) (start : List Entry) (who end at : ℕ) (old new : Staged) (line : Line) → acts who line ≡ true → GoesOn lines who end at old new → who < length new.done →
-    at < end → slice_get lines at ≡ Some line → waits_under new.journal who ≡ None → IsNext (take end lines) go start who new.journal (entry_of new who (call_of line.action))
-next_entry lines go start who end at old new line a g known lt is free = record {
-  actor = refl;
-  epoch = refl;
-  call = rw (free, mine_at lines who end at old new g known) (next_call lines who at end line is lt a);
+next_entry : (lines : List Line) (who end at : ℕ) (old new : Staged) (line : Line) → acts who line ≡ true → GoesOn lines who end at old new → who < length new.done →
+    at < end → slice_get lines at ≡ Some line → waits_under new.journal who ≡ None → IsNext (take end lines) who new.journal (entry_of new who (call_of line.action))
+next_entry lines who end at old new line a g known lt is free = record {
+  free = free;
+  own = record { actor = refl; epoch = refl; made = refl };
+  next = rw (mine_at lines who end at old new g known) (next_call lines who at end line is lt a);
 }
 
 -- past one of its own lines, with an entry of that line's call
@@ -102,7 +102,7 @@ goes_own lines who end at old new next line a g known lt is none free birth done
       (rw journal (begun_own (entry_of new who (call_of line.action)) new.journal who refl none ∙ ap suc (mine_at lines who end at old new g known)
       ∙ sym (more_calls lines who at line is ∙ ap (λ (b : Bool). cond b (suc (length (calls_of (take at lines) who))) (length (calls_of (take at lines) who))) a)))
       (λ v q. rw journal (begun_other (entry_of new who (call_of line.action)) new.journal v q));
-  block = λ start go b. rw journal (inr (g.block start go b, next_entry lines go start who end at old new line a g known lt is free));
+  block = λ first b. rw journal (inr (g.block first b, next_entry lines who end at old new line a g known lt is free));
   here = rw done (get_or-set_same new.done who (suc at) 0 known);
 }
 
@@ -116,7 +116,7 @@ goes_other lines who end at old new next line a g known lt is birth done journal
       (rw journal (mine_at lines who end at old new g known
       ∙ sym (more_calls lines who at line is ∙ ap (λ (b : Bool). cond b (suc (length (calls_of (take at lines) who))) (length (calls_of (take at lines) who))) a)))
       (λ v q. ap (λ (h : List Entry). begun h v) journal);
-  block = λ start go b. rw journal (g.block start go b);
+  block = λ first b. rw journal (g.block first b);
   here = rw done (get_or-set_same new.done who (suc at) 0 known);
 }
 
@@ -160,9 +160,9 @@ pub no_ticket : (ticket : Option ℕ) → is_some ticket ≡ false → ticket �
 no_ticket None p = refl
 no_ticket (Some t) p = absurd cc
 
--- a line began: its go did nothing
-pub began_quiet : (stage : Staged) (line : Line) → Began stage stage line
-began_quiet stage line = record { birth = refl; done = refl; same = λ who. refl; block = λ lines. block_start lines (is_go line.action) line.actor stage.journal }
+-- a line began with nothing
+pub began_quiet : (stage : Staged) (line : Line) → ticket_to_retry stage.journal line ≡ None → Began stage stage line
+began_quiet stage line none = record { birth = refl; done = refl; same = λ who. refl; begins = rw none refl }
 
 -- or its actor retried its ticket
 pub began_retry : (old new : Staged) (line : Line) (ticket : ℕ) → is_go line.action ≡ true → waits_under old.journal line.actor ≡ Some ticket →
@@ -171,19 +171,12 @@ began_retry old new line ticket go waits a = record {
   birth = a.birth;
   done = a.done;
   same = λ who. rw a.journal (begun_retry (entry_of old line.actor (Retry ticket Nothing)) old.journal who ticket refl);
-  block = λ lines. rw a.journal (inr (
-    block_start lines (is_go line.action) line.actor old.journal,
-    record {
-      actor = refl;
-      epoch = refl;
-      call = rw waits (go, refl, refl);
-    },
-  ));
+  begins = rw (go, waits) (entry_of old line.actor (Retry ticket Nothing), a.journal, record { actor = refl; epoch = refl; made = refl });
 }
 
 -- the start of going on
 pub goes_on_here : (lines : List Line) (who end : ℕ) (stage : Staged) → Paced lines end stage.done stage.journal → GoesOn lines who end (slice_index stage.done who) stage stage
-goes_on_here lines who end stage p = record { birth = refl; count = refl; paced = p; block = λ start go b. b; here = refl }
+goes_on_here lines who end stage p = record { birth = refl; count = refl; paced = p; block = λ first b. b; here = refl }
 
 -- paces hold for a later end
 pub paced_later : (lines : List Line) (end later : ℕ) (done : List ℕ) (h : List Entry) → Paced lines end done h → end ≤ later → Paced lines later done h
@@ -205,7 +198,7 @@ line_did lines at old mid new line is b w = record {
   did = λ other other_is. let same : line ≡ other = some_same line other (sym is ∙ other_is) in
       let one : at + 1 ≡ suc at = omega arith in
       subst (λ (x : Line). LineDone (take (suc at) lines) x old.journal new.journal) same
-      (subst (λ (n : ℕ). LineDone (take n lines) line old.journal new.journal) one (record { block = w.block old.journal (is_go line.action) (b.block (take (at + 1) lines)); done = w.done }));
+      (subst (λ (n : ℕ). LineDone (take n lines) line old.journal new.journal) one (record { first = mid.journal; begins = b.begins; block = w.block mid.journal (block_start (take (at + 1) lines) line.actor mid.journal); done = w.done }));
 }
 
 -- the journal of one line more

@@ -1,11 +1,11 @@
 -- A script's object and actors in the middle of the script.
-use Rattle.std.specs.Prelude.{◌≡◌, ℕ, ◌+◌, ◌<◌, ◌≤◌, Bool, cond, List, ◌∷◌, length, take, slice_index, slice_get, slice_set, suc, Some}
+use Rattle.std.specs.Prelude.{◌≡◌, ℕ, ◌+◌, ◌<◌, ◌≤◌, cond, List, ◌∷◌, length, take, slice_index, slice_get, slice_set, suc, Some}
 use Rattle.up_journal.specs.Legal.{due}
 use Rattle.up_journal.specs.declared.entry.Birth.{Birth}
 use Rattle.up_journal.specs.declared.entry.Entry.{Entry}
 use Rattle.up_journal.specs.declared.entry.Call.{Call}
 use Rattle.up_script.specs.declared.script.Line.{Line}
-use Rattle.pagerd.specs.Steps.{is_go, begun, calls_of, call_of, acts, Block, IsDone, LineDone, Steps}
+use Rattle.pagerd.specs.Steps.{begun, calls_of, call_of, acts, Block, LineBegins, IsDone, LineDone, Steps}
 
 -- what contracts see of it: the object's birth and journal, and up to which line the lines of each actor are done
 pub record Staged : Type 0 where
@@ -34,7 +34,7 @@ pub record Began (old new : Staged) (line : Line) : Type 0 where
   pub birth : new.birth ≡ old.birth
   pub done : new.done ≡ old.done
   pub same : (who : ℕ) → begun new.journal who ≡ begun old.journal who
-  pub block : (lines : List Line) → Block lines (is_go line.action) old.journal line.actor new.journal
+  pub begins : LineBegins line old.journal new.journal
 
 -- each actor has begun its lines up to that to which it is done, and no line from `most` on
 pub record Paced (lines : List Line) (most : ℕ) (done : List ℕ) (h : List Entry) : Type 0 where
@@ -46,7 +46,7 @@ pub record GoesOn (lines : List Line) (who end at : ℕ) (old new : Staged) : Ty
   pub birth : new.birth ≡ old.birth
   pub count : length new.done ≡ length old.done
   pub paced : Paced lines end new.done new.journal
-  pub block : (start : List Entry) (go : Bool) → Block (take end lines) go start who old.journal → Block (take end lines) go start who new.journal
+  pub block : (first : List Entry) → Block (take end lines) who first old.journal → Block (take end lines) who first new.journal
   pub here : slice_index new.done who ≡ at
 
 -- the actor went on with its lines up to line `end`, until it waits
@@ -54,7 +54,7 @@ pub record WentOn (lines : List Line) (who end : ℕ) (old new : Staged) : Type 
   pub birth : new.birth ≡ old.birth
   pub count : length new.done ≡ length old.done
   pub paced : Paced lines end new.done new.journal
-  pub block : (start : List Entry) (go : Bool) → Block (take end lines) go start who old.journal → Block (take end lines) go start who new.journal
+  pub block : (first : List Entry) → Block (take end lines) who first old.journal → Block (take end lines) who first new.journal
   pub done : IsDone (take end lines) who new.journal
 
 -- line `at` was done

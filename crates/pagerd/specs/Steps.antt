@@ -1,5 +1,5 @@
 -- What a journal has to be so that it is the one that a script's lines make, done in file order on one thread.
-use Rattle.std.specs.Prelude.{◌≡◌, ℕ, ◌/◌, ◌==◌, ◌&&◌, not, Bool, true, false, cond, Some, MatchOption, List, [], ◌∷◌, length, take, slice_get, zero, suc, ◌⊎◌, IsSome, is_none}
+use Rattle.std.specs.Prelude.{◌≡◌, ℕ, ◌/◌, ◌==◌, ◌&&◌, not, Bool, true, false, cond, Some, MatchOption, List, [], ◌∷◌, length, take, slice_get, zero, suc, ◌⊎◌, IsSome, is_none, Option, None}
 use Rattle.up_journal.specs.Parked.{retried, waits_under}
 use Rattle.up_journal.specs.declared.entry.Entry.{Entry}
 use Rattle.up_journal.specs.declared.entry.Brought.TheVariants.{Nothing, Frames}
@@ -38,28 +38,42 @@ abbrev pub begun : List Entry → ℕ → ℕ
 begun [] who = 0
 begun (e ∷ before) who = cond ((e.who == who) && is_none (retried e.call)) (suc (begun before who)) (begun before who)
 
--- an entry by this actor, after `h`, in the block of a line that began after `start`: where the actor waits it can only be the
--- retry of its ticket, at the start of a go's block; else it is the call of the actor's next line among `lines`, those up to now
-pub record IsNext (lines : List Line) (go : Bool) (start : List Entry) (who : ℕ) (h : List Entry) (e : Entry) : Type 0 where
+-- an entry by this actor, at epoch 0, of this call
+pub record IsCallBy (e : Entry) (who : ℕ) (call : Call) : Type 0 where
   pub actor : e.who ≡ who
   pub epoch : e.epoch ≡ 0
-  pub call : MatchOption (waits_under h who)
-      (slice_get (calls_of lines who) (begun h who) ≡ Some e.call)
-      (λ ticket. (go ≡ true) × (h ≡ start) × (e.call ≡ Retry ticket Nothing))
+  pub made : e.call ≡ call
 
--- h is `start` and a block of such entries
-abbrev pub Block : List Line → Bool → List Entry → ℕ → List Entry → Type 0
-Block lines go start who [] = start ≡ []
-Block lines go start who (e ∷ before) =
-    (start ≡ e ∷ before) ⊎ (Block lines go start who before × IsNext lines go start who before e)
+-- the ticket that a line's actor retries first: at a go the one under which it waits
+abbrev pub ticket_to_retry : List Entry → Line → Option ℕ
+ticket_to_retry h line = cond (is_go line.action) (waits_under h line.actor) None
+
+-- the journal after a line began, `start` being that before it: the retry, where there is one
+abbrev pub LineBegins : Line → List Entry → List Entry → Type 0
+LineBegins line start first =
+    MatchOption (ticket_to_retry start line) (first ≡ start)
+    (λ ticket. (e : Entry) × (first ≡ e ∷ start) × IsCallBy e line.actor (Retry ticket Nothing))
+
+-- an entry of an actor that doesn't wait, by the call of its next line among `lines`, those up to now
+pub record IsNext (lines : List Line) (who : ℕ) (h : List Entry) (e : Entry) : Type 0 where
+  pub free : waits_under h who ≡ None
+  pub own : IsCallBy e who e.call
+  pub next : slice_get (calls_of lines who) (begun h who) ≡ Some e.call
+
+-- h is `first` and a block of such entries
+abbrev pub Block : List Line → ℕ → List Entry → List Entry → Type 0
+Block lines who first [] = first ≡ []
+Block lines who first (e ∷ before) = (first ≡ e ∷ before) ⊎ (Block lines who first before × IsNext lines who before e)
 
 -- a block goes on until its actor waits, or has begun all its lines so far
 abbrev pub IsDone : List Line → ℕ → List Entry → Type 0
 IsDone lines who h = IsSome (waits_under h who) ⊎ (begun h who ≡ length (calls_of lines who))
 
--- one line more: its block comes after the journal of the lines before it
+-- one line more: what it begins with, its block, and that the block goes on as far as it can
 pub record LineDone (lines : List Line) (line : Line) (start h : List Entry) : Type 0 where
-  pub block : Block lines (is_go line.action) start line.actor h
+  pub first : List Entry
+  pub begins : LineBegins line start first
+  pub block : Block lines line.actor first h
   pub done : IsDone lines line.actor h
 
 -- h is the journal of the first k lines, done in file order

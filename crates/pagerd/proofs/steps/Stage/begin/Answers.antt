@@ -1,4 +1,4 @@
-use Rattle.std.proofs.Common.{sym}
+use Rattle.std.proofs.Common.{refl, sym}
 use Rattle.std.proofs.lemmas.Result.{IfOk-weaker}
 use Rattle.up_journal.specs.declared.entry.Brought.TheVariants.{Nothing}
 use Rattle.up_journal.specs.declared.entry.Call.TheVariants.{Retry}
@@ -7,10 +7,10 @@ use Rattle.pagerd.proofs.Blocks.{began_quiet, began_retry}
 use Rattle.pagerd.proofs.steps.Stage.begin.Goals as goal
 
 pub returns-then-not-is_go : goal.returns-then-not-is_go
-returns-then-not-is_go c = began_quiet c.args.self.now c.args.line.now
+returns-then-not-is_go c = began_quiet c.args.self.now c.args.line.now (rw (sym c.if-not-is_go.ensures) refl)
 
 pub returns-in-None : goal.returns-in-None
-returns-in-None c = began_quiet c.args.self.now c.args.line.now
+returns-in-None c = began_quiet c.args.self.now c.args.line.now (rw (sym c.if-not-is_go.ensures, sym c.in-None.ensures) refl)
 
 pub returns-in-Some : goal.returns-in-Some
 returns-in-Some c =
