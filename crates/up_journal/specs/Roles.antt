@@ -5,6 +5,8 @@ use Rattle.up_journal.specs.declared.entry.Birth.{Birth}
 use Rattle.up_journal.specs.declared.entry.Entry.{Entry}
 use Rattle.up_journal.specs.declared.entry.Call.{Call}
 use Rattle.up_journal.specs.declared.entry.Call.TheVariants.{Detach, Leave}
+use Rattle.up_journal.specs.declared.entry.Reply.{Reply}
+use Rattle.up_journal.specs.declared.entry.Reply.TheVariants.{Left}
 use Rattle.up_journal.specs.declared.entry.Role.TheVariants.{User, Pager}
 
 abbrev pub leaves_user : Call → Bool
@@ -15,6 +17,10 @@ abbrev pub leaves_pager : Call → Bool
 leaves_pager (Leave Pager) = true
 leaves_pager _ = false
 
+abbrev pub is_left : Reply → Bool
+is_left (Left woken) = true
+is_left _ = false
+
 abbrev pub is_detach : Call → Bool
 is_detach Detach = true
 is_detach _ = false
@@ -22,12 +28,12 @@ is_detach _ = false
 -- the users of the birth less those that left
 abbrev pub users : Birth → List Entry → ℕ
 users birth [] = birth.users
-users birth (e ∷ before) = cond (leaves_user e.call && accepts e.reply) (users birth before - 1) (users birth before)
+users birth (e ∷ before) = cond (leaves_user e.call && is_left e.reply) (users birth before - 1) (users birth before)
 
 -- the pagers of the birth less those that left
 abbrev pub pagers : Birth → List Entry → ℕ
 pagers birth [] = birth.pagers
-pagers birth (e ∷ before) = cond (leaves_pager e.call && accepts e.reply) (pagers birth before - 1) (pagers birth before)
+pagers birth (e ∷ before) = cond (leaves_pager e.call && is_left e.reply) (pagers birth before - 1) (pagers birth before)
 
 -- a detach was accepted
 abbrev pub was_detached : List Entry → Bool
