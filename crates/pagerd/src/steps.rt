@@ -1,4 +1,4 @@
-ghost use Rattle.std.specs.Prelude.{◌≡◌, ℕ, ◌+◌, ◌<◌, ◌≤◌, [], true, false, None, Some, MatchOption, length, replicate, reverse, slice_get, slice_index, take, IfOk, OnOk, OnErr};
+ghost use Rattle.std.specs.Prelude.{◌≡◌, ℕ, ◌+◌, ◌<◌, ◌≤◌, [], true, false, None, Some, length, replicate, reverse, slice_get, slice_index, IfOk, OnOk, OnErr};
 ghost use Rattle.up_journal.specs.declared.entry.Brought.TheVariants.{Nothing as NothingBrought};
 ghost use Rattle.up_journal.specs.declared.entry.Call.{Call as CallValue};
 ghost use Rattle.up_journal.specs.declared.entry.Call.TheVariants.{Retry as RetryCall};
@@ -6,7 +6,6 @@ ghost use Rattle.up_journal.specs.Legal as legal;
 ghost use Rattle.up_journal.specs.Parked as waiting;
 ghost use Rattle.up_journal.specs.Reply as replies;
 ghost use Rattle.up_script.specs.Built as built;
-ghost use Rattle.up_script.specs.declared.script.Line.{Line as LineValue};
 ghost use Rattle.pagerd.specs.Steps as steps;
 ghost use Rattle.pagerd.specs.Stage.{Acted, Passed, Began, Paced, WentOn, Did};
 

@@ -1,4 +1,4 @@
-ghost use Rattle.std.specs.Prelude.{◌≡◌, ◌||◌, [], IfOk, OnOk, is_err};
+ghost use Rattle.std.specs.Prelude.{◌≡◌, ◌||◌, IfOk, OnOk, is_err};
 ghost use Rattle.up_outside.specs.Cause.{HasCause};
 ghost use Rattle.up_outside.specs.InMemory.{counted, is_listed};
 

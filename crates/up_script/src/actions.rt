@@ -1,7 +1,7 @@
-ghost use Rattle.std.specs.Prelude.{◌≡◌, ◌&&◌, true, length, nat_lt, IfOk};
+ghost use Rattle.std.specs.Prelude.{◌≡◌, true, length, nat_lt, IfOk};
 ghost use Rattle.up_script.specs.Steps.{Gives};
 ghost use Rattle.up_script.specs.Actions.{actor_in, go_line, read_line, packet_line, supply_line, deed_of, act};
-ghost use Rattle.up_script.specs.Built.{is_built_action, is_built_deed, are_built};
+ghost use Rattle.up_script.specs.Built.{is_built_deed, are_built};
 
 use crate::acting::Acting;
 use crate::declarations::{Declared, read_bound};

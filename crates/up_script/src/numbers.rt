@@ -1,6 +1,6 @@
 ghost use Rattle.std.specs.Prelude.{◌≡◌, ◌≤◌, ◌<◌, ◌^◌, IfOk};
 ghost use Rattle.up_script.specs.Steps.{Gives};
-ghost use Rattle.up_script.specs.Numbers.{digits_from, has_bad_front, is_digit, number, number_between};
+ghost use Rattle.up_script.specs.Numbers.{digits_from, number, number_between};
 
 use crate::fault::ReadFault;
 

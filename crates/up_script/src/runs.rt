@@ -1,4 +1,4 @@
-ghost use Rattle.std.specs.Prelude.{◌≡◌, ◌≤◌, ◌<◌, ◌^◌, ◌+◌, [], length, IfOk};
+ghost use Rattle.std.specs.Prelude.{◌≡◌, ◌≤◌, ◌<◌, ◌+◌, length, IfOk};
 ghost use Rattle.std.specs.List.{sum_by};
 ghost use Rattle.up_script.specs.Steps.{Gives, each};
 ghost use Rattle.up_script.specs.Runs.{hex_value, run_in, run_step, no_runs, spread, bytes_in};

@@ -1,7 +1,6 @@
-ghost use Rattle.std.specs.Prelude.{◌≡◌, ◌+◌, ◌*◌, ◌<◌, ◌≤◌, true, false, nat_le, IsTrue, IfOk, OnOk, OnErr, Some};
+ghost use Rattle.std.specs.Prelude.{◌≡◌, ◌+◌, ◌*◌, ◌<◌, true, false, nat_le, IsTrue, IfOk, OnOk, OnErr, Some};
 ghost use Rattle.up_num.specs.declared.answers.Outcome.TheVariants.{Freed as FreedOutcome};
-ghost use Rattle.up_num.specs.declared.answers.Refusal.{Refusal as RefusalValue};
-ghost use Rattle.up_journal.specs.declared.entry.Reply.TheVariants.{Waiting as StillWaiting, Refused as RefusedReply};
+ghost use Rattle.up_journal.specs.declared.entry.Reply.TheVariants.{Refused as RefusedReply};
 ghost use Rattle.up_journal.specs.Attempts.{parked};
 ghost use Rattle.up_journal.specs.Size.{size};
 ghost use Rattle.up_journal.specs.Value.{there};

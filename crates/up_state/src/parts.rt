@@ -1,5 +1,4 @@
 ghost use Rattle.std.specs.Prelude.{◌≡◌, ◌-◌, ◌∷◌, ◌<◌, true, false, IfOk, OnOk, OnErr, IfErr};
-ghost use Rattle.up_journal.specs.Legal.{Life};
 ghost use Rattle.up_state.specs.Change.{Change, up_to, SamePage, SameAsks, SameSpent, KeepsRoles, IsDue, IsQuiet, Fills, Parks, Happens, TakesPacket, Spends};
 
 use crate::asking::{Asking, Event, Ticket};
