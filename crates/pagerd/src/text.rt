@@ -1,4 +1,4 @@
-ghost use Rattle.std.specs.Prelude.{◌≡◌, ◌+◌, ◌<◌, ◌++◌, [], OnOk, OnErr, decimal, codes};
+ghost use Rattle.std.specs.Prelude.{◌≡◌, ◌+◌, ◌<◌, ◌++◌, OnOk, OnErr, decimal, codes};
 ghost use Rattle.pagerd.specs.Text.{bytes_text, birth_text, call_text, code_text, entries_text, entry_text, frames_text, hex, journal_text, limit_text, list_text, more_text, packet_text, refusal_text, reply_text, run_text, text_from, then_number, then_range};
 
 #[cfg(test)]

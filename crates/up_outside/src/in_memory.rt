@@ -1,4 +1,4 @@
-ghost use Rattle.std.specs.Prelude.{◌≡◌, ◌+◌, ◌<◌, ◌≤◌, ◌++◌, ◌-◌, [], length, min, take, drop, IfOk, IsOk, is_err, Some, vec_len};
+ghost use Rattle.std.specs.Prelude.{◌≡◌, ◌+◌, ◌<◌, ◌≤◌, ◌++◌, ◌-◌, [], length, min, take, drop, IfOk, IsOk, is_err, if◌then◌else◌, Some, vec_len};
 ghost use Rattle.std.specs.Io.{ReadsAtMost, WritesAtMost};
 ghost use Rattle.std.specs.Io.KnownBytes.{ReadConsumes, WriteAppends};
 ghost use Rattle.up_outside.specs.Cause.{HasCause};
@@ -77,6 +77,7 @@ impl Source for MemSource {
         ensures planned { is_err result ≡ feed_fails self.old }
         ensures count { IfOk result (λ count. count ≡ feed_gives self.old (length buf.new)) }
         ensures calls { self.new.calls ≡ counted self.old.calls }
+        ensures faults { self.new.faults ≡ (if is_err result then counted self.old.faults else self.old.faults) }
         ensures same { (self.new.most ≡ self.old.most) × (self.new.fail ≡ self.old.fail) × (self.new.room ≡ self.old.room) }
     {
         let full = self.plan.calls >= u64::from(self.room);
@@ -218,6 +219,7 @@ impl Sink for MemSink {
         ensures planned { is_err result ≡ tray_fails self.old bytes.now }
         ensures count { IfOk result (λ count. count ≡ tray_takes self.old (length bytes.now)) }
         ensures calls { self.new.calls ≡ counted self.old.calls }
+        ensures faults { self.new.faults ≡ (if is_err result then counted self.old.faults else self.old.faults) }
         ensures same { (self.new.most ≡ self.old.most) × (self.new.fail ≡ self.old.fail) × (self.new.room ≡ self.old.room) }
     {
         let free = self.bytes.len() - self.filled;

@@ -1,4 +1,4 @@
-ghost use Rattle.std.specs.Prelude.{◌≡◌, ◌||◌, IfOk, OnOk, is_err};
+ghost use Rattle.std.specs.Prelude.{◌≡◌, ◌||◌, IfOk, is_err, if◌then◌else◌};
 ghost use Rattle.up_outside.specs.Cause.{HasCause};
 ghost use Rattle.up_outside.specs.InMemory.{counted, is_listed};
 
@@ -32,7 +32,7 @@ impl Plan {
         ensures same { self.new.fail ≡ self.old.fail }
         ensures calls { self.new.calls ≡ counted self.old.calls }
         ensures cause { HasCause self.old.faults self.new.faults result }
-        ensures no_fault { OnOk result (self.new.faults ≡ self.old.faults) }
+        ensures faults { self.new.faults ≡ (if is_err result then counted self.old.faults else self.old.faults) }
     {
         self.calls = self.calls.saturating_add(1);
         if full || lists(self.fail.as_slice(), self.calls) {

@@ -2,7 +2,6 @@ use crate::{
     Failed, MemSink, MemSource, PlainSource, ReadStop, ReaderSource, Sink, Source, WriterSink,
     push_all, read_to,
 };
-use std::alloc::Global;
 use std::collections::VecDeque;
 use std::io::{self, ErrorKind, Read, Write};
 use std::test::Fail;
