@@ -8,7 +8,7 @@ use Rattle.std.proofs.lemmas.Slice.Eq.{bytes_eq-Decides}
 use Rattle.std.specs.Prelude.{Contains, codes}
 use Rattle.pagerd.specs.declared.top.Ended.{Ended}
 use Rattle.pagerd.specs.declared.top.Ended.TheVariants.{Written, Words, Unread, Source, Sink, Memory}
-use Rattle.pagerd.specs.Top.{IsScript, IsNoScript, Unread as UnreadFact, status_of}
+use Rattle.pagerd.specs.Top.{IsScript, IsNoScript, status_of}
 
 pub status_listed : (ended : Ended) → Contains (0 ∷ 2 ∷ 3 ∷ 4 ∷ 5 ∷ 7 ∷ []) (status_of ended)
 status_listed Written = (0, lit< tt, refl)
@@ -59,12 +59,12 @@ no_script (Some all) (Some rest) s n =
     ] refl
 
 -- where the words are step, the source has a script, and no count of faults rose, all is done or memory ran out
-pub ends_well : {Step SourceRose SinkRose SourceFacts SinkFacts : Type 0} (left now written_before written_now : Option (List ℕ)) (ended : Ended) →
-    (Step → ended ≡ Words → ⊥) → (ended ≡ Unread → UnreadFact left now written_before written_now) → (ended ≡ Source → SourceRose × SourceFacts) → (ended ≡ Sink → SinkRose × SinkFacts) →
+pub ends_well : {Step SourceRose SinkRose SourceFacts SinkFacts : Type 0} (left now : Option (List ℕ)) (ended : Ended) →
+    (Step → ended ≡ Words → ⊥) → (ended ≡ Unread → IsNoScript left now) → (ended ≡ Source → SourceRose × SourceFacts) → (ended ≡ Sink → SinkRose × SinkFacts) →
     Step → IsScript left → (SourceRose → ⊥) → (SinkRose → ⊥) → (status_of ended ≡ 0) ⊎ (status_of ended ≡ 7)
-ends_well left now written_before written_now Written words unread source sink step script no_source no_sink = inl refl
-ends_well left now written_before written_now Words words unread source sink step script no_source no_sink = absurd (words step refl)
-ends_well left now written_before written_now Unread words unread source sink step script no_source no_sink = absurd (no_script left now script (unread refl).script)
-ends_well left now written_before written_now Source words unread source sink step script no_source no_sink = absurd (no_source (source refl).0)
-ends_well left now written_before written_now Sink words unread source sink step script no_source no_sink = absurd (no_sink (sink refl).0)
-ends_well left now written_before written_now Memory words unread source sink step script no_source no_sink = inr refl
+ends_well left now Written words unread source sink step script no_source no_sink = inl refl
+ends_well left now Words words unread source sink step script no_source no_sink = absurd (words step refl)
+ends_well left now Unread words unread source sink step script no_source no_sink = absurd (no_script left now script (unread refl))
+ends_well left now Source words unread source sink step script no_source no_sink = absurd (no_source (source refl).0)
+ends_well left now Sink words unread source sink step script no_source no_sink = absurd (no_sink (sink refl).0)
+ends_well left now Memory words unread source sink step script no_source no_sink = inr refl

@@ -1,5 +1,5 @@
 -- What the top call does at each status.
-use Rattle.std.specs.Prelude.{◌≡◌, ℕ, ◌≤◌, List, [], ◌∷◌, Option, Some, None, length, reverse, codes, ◌⊎◌}
+use Rattle.std.specs.Prelude.{◌≡◌, ℕ, ◌≤◌, List, [], ◌∷◌, Option, Some, None, length, reverse, codes}
 use Rattle.std.specs.Io.KnownBytes.{Appends, Consumes, IsAtEnd}
 use Rattle.up_journal.specs.Legal.{Legal}
 use Rattle.up_journal.specs.declared.entry.Entry.{Entry}
@@ -54,26 +54,30 @@ pub record IsScript (left : Option (List ℕ)) : Type 0 where
   pub told : left ≡ Some bytes
   pub spelled : script_of bytes ≡ Some script
 
--- all was done and written: the source was read to its end, and the sink took the text that its bytes make
-pub record Done (left_before left_now written_before written_now : Option (List ℕ)) : Type 0 where
+-- what a call has to write: the journal of its script, that its words aren't step, or that its source gave no script
+pub data Output : Type 0 where
+  whole_journal : Output
+  words_fault : Output
+  script_fault : Output
+
+-- the text that a call has to write, and what calls for it: the words, and what the source had left before and has left now
+abbrev pub IsText : Output → List (List ℕ) → Option (List ℕ) → Option (List ℕ) → List ℕ → Type 0
+IsText whole_journal words left_before left_now text = IsStep words × Makes left_before left_now text
+IsText words_fault words left_before left_now text = (IsStep words → ⊥) × (text ≡ codes "words\n")
+IsText script_fault words left_before left_now text = IsStep words × IsNoScript left_before left_now × (text ≡ codes "fault 0 unbuilt\n")
+
+-- the call had this to write, and the sink took all of its text
+pub record Took (output : Output) (words : List (List ℕ)) (left_before left_now written_before written_now : Option (List ℕ)) : Type 0 where
   pub text : List ℕ
-  pub made : Makes left_before left_now text
+  pub is : IsText output words left_before left_now text
   pub took : Appends written_before written_now text
 
--- the text isn't of the form, and that was told
-pub record Unread (left_before left_now written_before written_now : Option (List ℕ)) : Type 0 where
-  pub script : IsNoScript left_before left_now
-  pub took : Appends written_before written_now (codes "fault 0 unbuilt\n")
-
--- a text that some status writes
-abbrev pub IsText : List ℕ → Type 0
-IsText text = ((text ≡ codes "words\n") ⊎ (text ≡ codes "fault 0 unbuilt\n")) ⊎ ((bytes : List ℕ) × Spells bytes text)
-
--- the sink took some first bytes of such a text
-pub record TookFront (written_before written_now : Option (List ℕ)) : Type 0 where
+-- the sink took some first bytes of the text that the call had to write
+pub record TookFront (words : List (List ℕ)) (left_before left_now written_before written_now : Option (List ℕ)) : Type 0 where
   pub text : List ℕ
-  pub is : IsText text
   pub front : AppendsFront written_before written_now text
+  pub output : Output
+  pub is : IsText output words left_before left_now text
 
 abbrev pub status_of : Ended → ℕ
 status_of Written = 0

@@ -1,8 +1,7 @@
-ghost use Rattle.std.specs.Prelude.{◌≡◌, ◌≢◌, ◌↔◌, [], ◌∷◌, codes, map, string_bytes, IsTrue, IfOk, IfErr, None, ◌⊎◌, Contains};
-ghost use Rattle.std.specs.Io.KnownBytes.{Appends};
+ghost use Rattle.std.specs.Prelude.{◌≡◌, ◌≢◌, ◌↔◌, [], ◌∷◌, map, string_bytes, IsTrue, IfOk, IfErr, None, ◌⊎◌, Contains};
 ghost use Rattle.up_outside.specs.Cause.{Rose};
 ghost use Rattle.up_script.specs.Reading.{script_of};
-ghost use Rattle.pagerd.specs.Top.{IsStep, Done, Unread, Makes, IsNoScript, IsScript, Spells, TookFront, status_of};
+ghost use Rattle.pagerd.specs.Top.{IsStep, Makes, IsNoScript, IsScript, Spells, Took, TookFront, whole_journal, words_fault, script_fault, status_of};
 
 use crate::steps::journal_of;
 use crate::text::write_journal;
@@ -21,7 +20,7 @@ const TEXT: usize = 4_194_304;
 /// | 2 | the words aren't the one word `step` | `words` |
 /// | 3 | the text isn't of the form that is read today | `fault 0 unbuilt` |
 /// | 4 | only where the source failed | nothing |
-/// | 5 | only where the sink failed | some first bytes of a text |
+/// | 5 | only where the sink failed | some first bytes of the text that 0, 2 or 3 would have written |
 /// | 7 | want of memory | nothing |
 pub fn alone<S: Source, K: Sink>(
     alloc: Global,
@@ -29,11 +28,11 @@ pub fn alone<S: Source, K: Sink>(
     source: &mut S,
     sink: &mut K,
 ) -> u8
-    ensures done { result ≡ 0 → Done (S.left source.old) (S.left source.new) (K.written sink.old) (K.written sink.new) }
-    ensures words { result ≡ 2 → Appends (K.written sink.old) (K.written sink.new) (codes "words\n") }
-    ensures unread { result ≡ 3 → Unread (S.left source.old) (S.left source.new) (K.written sink.old) (K.written sink.new) }
+    ensures done { result ≡ 0 → Took whole_journal (map string_bytes words.now) (S.left source.old) (S.left source.new) (K.written sink.old) (K.written sink.new) }
+    ensures words { result ≡ 2 → Took words_fault (map string_bytes words.now) (S.left source.old) (S.left source.new) (K.written sink.old) (K.written sink.new) }
+    ensures unread { result ≡ 3 → Took script_fault (map string_bytes words.now) (S.left source.old) (S.left source.new) (K.written sink.old) (K.written sink.new) }
     ensures source { result ≡ 4 → Rose (S.faults source.old) (S.faults source.new) × (sink.new ≡ sink.old) }
-    ensures sink { result ≡ 5 → Rose (K.faults sink.old) (K.faults sink.new) × TookFront (K.written sink.old) (K.written sink.new) }
+    ensures sink { result ≡ 5 → Rose (K.faults sink.old) (K.faults sink.new) × TookFront (map string_bytes words.now) (S.left source.old) (S.left source.new) (K.written sink.old) (K.written sink.new) }
     ensures memory { result ≡ 7 → sink.new ≡ sink.old }
 
     // The words alone decide on status 2, before any read.
@@ -70,11 +69,11 @@ fn status(ended: Ended) -> u8
 }
 
 fn run<S: Source, K: Sink>(alloc: Global, words: &[String], source: &mut S, sink: &mut K) -> Ended
-    ensures done { result ≡ Ended.Written → Done (S.left source.old) (S.left source.new) (K.written sink.old) (K.written sink.new) }
-    ensures words { result ≡ Ended.Words → Appends (K.written sink.old) (K.written sink.new) (codes "words\n") }
-    ensures unread { result ≡ Ended.Unread → Unread (S.left source.old) (S.left source.new) (K.written sink.old) (K.written sink.new) }
+    ensures done { result ≡ Ended.Written → Took whole_journal (map string_bytes words.now) (S.left source.old) (S.left source.new) (K.written sink.old) (K.written sink.new) }
+    ensures words { result ≡ Ended.Words → Took words_fault (map string_bytes words.now) (S.left source.old) (S.left source.new) (K.written sink.old) (K.written sink.new) }
+    ensures unread { result ≡ Ended.Unread → Took script_fault (map string_bytes words.now) (S.left source.old) (S.left source.new) (K.written sink.old) (K.written sink.new) }
     ensures source { result ≡ Ended.Source → Rose (S.faults source.old) (S.faults source.new) × (sink.new ≡ sink.old) }
-    ensures sink { result ≡ Ended.Sink → Rose (K.faults sink.old) (K.faults sink.new) × TookFront (K.written sink.old) (K.written sink.new) }
+    ensures sink { result ≡ Ended.Sink → Rose (K.faults sink.old) (K.faults sink.new) × TookFront (map string_bytes words.now) (S.left source.old) (S.left source.new) (K.written sink.old) (K.written sink.new) }
     ensures memory { result ≡ Ended.Memory → sink.new ≡ sink.old }
     ensures step { IsStep (map string_bytes words.now) → result ≢ Ended.Words }
     ensures no_step { (IsStep (map string_bytes words.now) → ⊥) → ((result ≡ Ended.Words) ⊎ (result ≡ Ended.Sink)) × (source.new ≡ source.old) }

@@ -8,4 +8,4 @@ returns-clause-listed g c = subst (λ (n : ℕ). Contains (0 ∷ 2 ∷ 3 ∷ 4 �
 
 pub returns-clause-complete : goal.returns-clause-complete
 returns-clause-complete g c = λ step script no_source no_sink. subst (λ (n : ℕ). (n ≡ 0) ⊎ (n ≡ 7)) (sym c.status.ensures)
-    (ends_well _ _ _ _ c.run.result c.run.ensures.step c.run.ensures.unread c.run.ensures.source c.run.ensures.sink step script no_source no_sink)
+    (ends_well _ _ c.run.result c.run.ensures.step (λ unread. (c.run.ensures.unread unread).is.1) c.run.ensures.source c.run.ensures.sink step script no_source no_sink)
