@@ -1,3 +1,5 @@
+pub mod Failing
 pub mod Staging
 pub mod Blocks
+pub mod Making
 pub mod Endings

@@ -1,6 +1,7 @@
--- What a journal has to be so that it is the one that a script's lines make, done in file order on one thread.
+-- What the journals of a script's objects have to be so that they are those that its lines make, done in file order on one thread.
+-- All entries stand in one list, each with its object, newest first.
 use Rattle.std.specs.Prelude.{◌≡◌, ℕ, ◌/◌, ◌==◌, ◌&&◌, not, Bool, true, false, cond, Some, MatchOption, List, [], ◌∷◌, length, take, slice_get, zero, suc, ◌⊎◌, IsSome, is_none, Option, None}
-use Rattle.up_journal.specs.Parked.{retried, waits_under}
+use Rattle.up_journal.specs.Parked.{retried, waits_after}
 use Rattle.up_journal.specs.declared.entry.Entry.{Entry}
 use Rattle.up_journal.specs.declared.entry.Brought.TheVariants.{Nothing, Frames}
 use Rattle.up_journal.specs.declared.entry.Call.{Call}
@@ -8,12 +9,33 @@ use Rattle.up_journal.specs.declared.entry.Call.TheVariants.{Read as ReadCall, R
 use Rattle.up_script.specs.declared.script.Action.{Action}
 use Rattle.up_script.specs.declared.script.Action.TheVariants.{Go, Read, Act}
 use Rattle.up_script.specs.declared.script.Line.{Line}
+use Rattle.pagerd.specs.declared.steps.Parked.{Parked}
+
+-- an entry, and the object in whose journal it stands
+pub record Entered : Type 0 where
+  pub object : ℕ
+  pub entry : Entry
+
+-- the journal of one object
+abbrev pub of_object : ℕ → List Entered → List Entry
+of_object object [] = []
+of_object object (x ∷ before) = cond (x.object == object) (x.entry ∷ of_object object before) (of_object object before)
+
+-- the object on which an actor waits, and its ticket there
+abbrev pub parked_at : ℕ → Option ℕ → Option Parked
+parked_at object None = None
+parked_at object (Some ticket) = Some (record { object = object; ticket = ticket })
+
+-- where an actor waits: its last entry decides
+abbrev pub parks : List Entered → ℕ → Option Parked
+parks [] who = None
+parks (x ∷ before) who = cond (x.entry.who == who) (parked_at x.object (waits_after x.entry.reply x.entry.call)) (parks before who)
 
 abbrev pub is_go : Action → Bool
 is_go Go = true
 is_go _ = false
 
--- the call that a line names, with what it brings: a supply has a frame for its page
+-- the call that a line names, with what it brings: a supply has a frame for each page
 abbrev pub with_frames : Call → Call
 with_frames (Supply range bytes brought) = Supply range bytes (Frames range.count)
 with_frames call = call
@@ -24,60 +46,80 @@ call_of (Read object off len) = ReadCall (record { off = off; len = len }) (reco
 call_of (Act object call) = with_frames call
 call_of _ = Packet
 
+-- the object of such a line
+abbrev pub object_at : Action → ℕ
+object_at (Read object off len) = object
+object_at (Act object call) = object
+object_at _ = 0
+
+-- a call, and the object that it is made on
+pub record Aimed : Type 0 where
+  pub object : ℕ
+  pub call : Call
+
+abbrev pub aim_of : Action → Aimed
+aim_of action = record { object = object_at action; call = call_of action }
+
 -- the line is one of this actor's, and not a go
 abbrev pub acts : ℕ → Line → Bool
 acts who line = (line.actor == who) && not (is_go line.action)
 
 -- the calls of an actor's lines, in file order
-abbrev pub calls_of : List Line → ℕ → List Call
+abbrev pub calls_of : List Line → ℕ → List Aimed
 calls_of [] who = []
-calls_of (line ∷ lines) who = cond (acts who line) (call_of line.action ∷ calls_of lines who) (calls_of lines who)
+calls_of (line ∷ lines) who = cond (acts who line) (aim_of line.action ∷ calls_of lines who) (calls_of lines who)
 
 -- how many of its lines an actor has begun: each entry of its that is no retry begins one
-abbrev pub begun : List Entry → ℕ → ℕ
+abbrev pub begun : List Entered → ℕ → ℕ
 begun [] who = 0
-begun (e ∷ before) who = cond ((e.who == who) && is_none (retried e.call)) (suc (begun before who)) (begun before who)
+begun (x ∷ before) who = cond ((x.entry.who == who) && is_none (retried x.entry.call)) (suc (begun before who)) (begun before who)
 
--- an entry by this actor, at epoch 0, of this call
-pub record IsCallBy (e : Entry) (who : ℕ) (call : Call) : Type 0 where
-  pub actor : e.who ≡ who
-  pub epoch : e.epoch ≡ 0
-  pub made : e.call ≡ call
+-- an entry by this actor, at epoch 0, of this call on this object
+pub record IsCallBy (x : Entered) (who : ℕ) (aim : Aimed) : Type 0 where
+  pub actor : x.entry.who ≡ who
+  pub epoch : x.entry.epoch ≡ 0
+  pub on : x.object ≡ aim.object
+  pub made : x.entry.call ≡ aim.call
 
--- the ticket that a line's actor retries first: at a go the one under which it waits
-abbrev pub ticket_to_retry : List Entry → Line → Option ℕ
-ticket_to_retry h line = cond (is_go line.action) (waits_under h line.actor) None
+-- the retry of a ticket, on its object
+abbrev pub retry_of : Parked → Aimed
+retry_of parked = record { object = parked.object; call = Retry parked.ticket Nothing }
 
--- the journal after a line began, `start` being that before it: the retry, where there is one
-abbrev pub LineBegins : Line → List Entry → List Entry → Type 0
+-- what a line's actor retries first: at a go the ticket under which it waits
+abbrev pub parked_to_retry : List Entered → Line → Option Parked
+parked_to_retry h line = cond (is_go line.action) (parks h line.actor) None
+
+-- the entries after a line began, `start` being those before it: the retry, where there is one
+abbrev pub LineBegins : Line → List Entered → List Entered → Type 0
 LineBegins line start first =
-    MatchOption (ticket_to_retry start line) (first ≡ start)
-    (λ ticket. (e : Entry) × (first ≡ e ∷ start) × IsCallBy e line.actor (Retry ticket Nothing))
+    MatchOption (parked_to_retry start line) (first ≡ start)
+    (λ parked. (x : Entered) × (first ≡ x ∷ start) × IsCallBy x line.actor (retry_of parked))
 
 -- an entry of an actor that doesn't wait, by the call of its next line among `lines`, those up to now
-pub record IsNext (lines : List Line) (who : ℕ) (h : List Entry) (e : Entry) : Type 0 where
-  pub free : waits_under h who ≡ None
-  pub own : IsCallBy e who e.call
-  pub next : slice_get (calls_of lines who) (begun h who) ≡ Some e.call
+pub record IsNext (lines : List Line) (who : ℕ) (h : List Entered) (x : Entered) : Type 0 where
+  pub free : parks h who ≡ None
+  pub aim : Aimed
+  pub own : IsCallBy x who aim
+  pub next : slice_get (calls_of lines who) (begun h who) ≡ Some aim
 
 -- h is `first` and a block of such entries
-abbrev pub Block : List Line → ℕ → List Entry → List Entry → Type 0
+abbrev pub Block : List Line → ℕ → List Entered → List Entered → Type 0
 Block lines who first [] = first ≡ []
-Block lines who first (e ∷ before) = (first ≡ e ∷ before) ⊎ (Block lines who first before × IsNext lines who before e)
+Block lines who first (x ∷ before) = (first ≡ x ∷ before) ⊎ (Block lines who first before × IsNext lines who before x)
 
 -- a block goes on until its actor waits, or has begun all its lines so far
-abbrev pub IsDone : List Line → ℕ → List Entry → Type 0
-IsDone lines who h = IsSome (waits_under h who) ⊎ (begun h who ≡ length (calls_of lines who))
+abbrev pub IsDone : List Line → ℕ → List Entered → Type 0
+IsDone lines who h = IsSome (parks h who) ⊎ (begun h who ≡ length (calls_of lines who))
 
 -- one line more: what it begins with, its block, and that the block goes on as far as it can
-pub record LineDone (lines : List Line) (line : Line) (start h : List Entry) : Type 0 where
-  pub first : List Entry
+pub record LineDone (lines : List Line) (line : Line) (start h : List Entered) : Type 0 where
+  pub first : List Entered
   pub begins : LineBegins line start first
   pub block : Block lines line.actor first h
   pub done : IsDone lines line.actor h
 
--- h is the journal of the first k lines, done in file order
-abbrev pub Steps : List Line → ℕ → List Entry → Type 0
+-- h are the entries of the first k lines, done in file order
+abbrev pub Steps : List Line → ℕ → List Entered → Type 0
 Steps lines zero h = h ≡ []
-Steps lines (suc k) h = (start : List Entry) × Steps lines k start
+Steps lines (suc k) h = (start : List Entered) × Steps lines k start
     × (MatchOption (slice_get lines k) ⊥ (λ line. LineDone (take (suc k) lines) line start h))

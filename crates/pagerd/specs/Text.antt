@@ -1,5 +1,5 @@
--- The journal text of one object, line by line and word by word.
-use Rattle.std.specs.Prelude.{ℕ, ◌+◌, ◌/◌, ◌%◌, ◌==◌, cond, Option, Some, None, List, [], ◌∷◌, ◌++◌, length, nat_lt, decimal, codes}
+-- The text of journals, line by line and word by word.
+use Rattle.std.specs.Prelude.{ℕ, ◌+◌, cond, Option, Some, None, List, [], ◌∷◌, ◌++◌, length, decimal, codes}
 use Rattle.up_num.specs.Span.{Span}
 use Rattle.up_num.specs.declared.answers.Code.{Code}
 use Rattle.up_num.specs.declared.answers.Code.TheVariants.{Io, IoDataIntegrity, BadState, NoSpace, BufferTooSmall}
@@ -7,6 +7,10 @@ use Rattle.up_num.specs.declared.answers.Packet.{Packet as PacketValue}
 use Rattle.up_num.specs.declared.answers.Packet.TheVariants.{Read as ReadPacket, Dirty as DirtyPacket, Complete}
 use Rattle.up_num.specs.declared.answers.Refusal.{Refusal}
 use Rattle.up_num.specs.declared.answers.Refusal.TheVariants.{Range, Detached, Pager, NotFound, NotTrap, Fixed, Pinned, Unpinned, PinLimit, Unclean, NoFrames}
+use Rattle.up_words.specs.Runs.{bytes_text}
+use Rattle.up_words.specs.declared.fault.Why.{Why}
+use Rattle.up_words.specs.declared.fault.Why.TheVariants as why
+use Rattle.up_script.specs.declared.script.ObjectLine.{ObjectLine}
 use Rattle.up_journal.specs.declared.entry.Birth.{Birth}
 use Rattle.up_journal.specs.declared.entry.Brought.{Brought}
 use Rattle.up_journal.specs.declared.entry.Brought.TheVariants.{Nothing, Frames, Scanned}
@@ -19,24 +23,6 @@ use Rattle.up_journal.specs.declared.entry.Reply.TheVariants.{Bytes, Blocked, Wa
 -- a space, and a number
 abbrev pub then_number : ℕ → List ℕ
 then_number n = codes " " ++ decimal n
-
--- a lower-case hexadecimal digit
-abbrev pub hex : ℕ → ℕ
-hex digit = cond (nat_lt digit 10) (48 + digit) (87 + digit)
-
--- n times the byte b, as 61*3
-abbrev pub run_text : ℕ → ℕ → List ℕ
-run_text b n = hex (b / 16) ∷ hex (b % 16) ∷ codes "*" ++ decimal n
-
--- the runs of some bytes, joined by +, where the byte b stood n times before them
-unfoldable pub text_from : ℕ → ℕ → List ℕ → List ℕ
-text_from b n [] = run_text b n
-text_from b n (c ∷ cs) = cond (c == b) (text_from b (n + 1) cs) (run_text b n ++ codes "+" ++ text_from c 1 cs)
-
--- bytes as their runs, each as long as it can be; nothing for no bytes
-abbrev pub bytes_text : List ℕ → List ℕ
-bytes_text [] = []
-bytes_text (b ∷ bs) = text_from b 1 bs
 
 -- numbers behind others
 unfoldable pub more_text : List ℕ → List ℕ
@@ -127,7 +113,35 @@ birth_text name birth =
     ++ cond birth.trap (codes " trap") (codes " free") ++ then_number birth.users ++ then_number birth.pagers
     ++ cond birth.image (codes " image\n") (codes " -\n")
 
--- the text of one object of this name and birth, with these entries, oldest first
-abbrev pub journal_text : List ℕ → Birth → List Entry → List ℕ
-journal_text name birth entries =
-    codes "pagerd-journal 1\n" ++ birth_text name birth ++ entries_text 0 entries ++ codes "end" ++ then_number (length entries) ++ codes "\ndone\n"
+-- one object's part: its birth, its entries, oldest first, and how many they are
+abbrev pub part_text : ObjectLine → List Entry → List ℕ
+part_text object entries =
+    birth_text object.name object.birth ++ entries_text 0 entries ++ codes "end" ++ then_number (length entries) ++ codes "\n"
+
+-- the parts of all objects, each with its journal
+unfoldable pub parts_text : List ObjectLine → List (List Entry) → List ℕ
+parts_text [] journals = []
+parts_text (object ∷ objects) [] = []
+parts_text (object ∷ objects) (entries ∷ journals) = part_text object entries ++ parts_text objects journals
+
+-- the text of the journals of these objects
+abbrev pub journals_text : List ObjectLine → List (List Entry) → List ℕ
+journals_text objects journals = codes "pagerd-journal 1\n" ++ parts_text objects journals ++ codes "done\n"
+
+abbrev pub why_text : Why → List ℕ
+why_text why.Long = codes "long"
+why_text why.Limit = codes "limit"
+why_text why.Cut = codes "cut"
+why_text why.Header = codes "header"
+why_text why.Word = codes "word"
+why_text why.Name = codes "name"
+why_text why.Number = codes "number"
+why_text why.Bytes = codes "bytes"
+why_text why.Role = codes "role"
+why_text why.Left = codes "left"
+why_text why.Missing = codes "missing"
+why_text why.Order = codes "order"
+
+-- a fault at a line
+abbrev pub fault_text : ℕ → List ℕ → List ℕ
+fault_text line reason = codes "fault" ++ then_number line ++ codes " " ++ reason ++ codes "\n"

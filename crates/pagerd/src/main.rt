@@ -2,6 +2,7 @@
 //! object to standard output.
 #![tactic(auto)]
 
+mod built;
 mod steps;
 #[cfg(test)]
 mod tests;

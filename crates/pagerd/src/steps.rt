@@ -1,39 +1,48 @@
-ghost use Rattle.std.specs.Prelude.{◌≡◌, ℕ, ◌+◌, ◌<◌, ◌≤◌, [], true, false, None, Some, length, replicate, reverse, slice_get, slice_index, IfOk, OnOk, OnErr};
-ghost use Rattle.up_journal.specs.declared.entry.Brought.TheVariants.{Nothing as NothingBrought};
+ghost use Rattle.std.specs.Prelude.{◌≡◌, ◌<◌, ◌≤◌, [], true, false, None, Some, length, replicate, slice_get, slice_index, vec_len, IfOk, OnOk, OnErr};
+ghost use Rattle.std.specs.Vec.{vec_capacity};
+ghost use Rattle.std.specs.List.{list_all};
 ghost use Rattle.up_journal.specs.declared.entry.Call.{Call as CallValue};
-ghost use Rattle.up_journal.specs.declared.entry.Call.TheVariants.{Retry as RetryCall};
 ghost use Rattle.up_journal.specs.Legal as legal;
 ghost use Rattle.up_journal.specs.Parked as waiting;
 ghost use Rattle.up_journal.specs.Reply as replies;
-ghost use Rattle.up_script.specs.Built as built;
+ghost use Rattle.up_script.specs.Sound as sound;
+ghost use Rattle.pagerd.specs.Built as built;
+ghost use Rattle.pagerd.specs.Journals.{AreJournalsOf, AllLegal, new_lives, ends_of};
 ghost use Rattle.pagerd.specs.Steps as steps;
-ghost use Rattle.pagerd.specs.Stage.{Acted, Passed, Began, Paced, WentOn, Did};
+ghost use Rattle.pagerd.specs.Stage.{Acted, Passed, Began, WentOn, Did, GoneThrough};
 
 use std::alloc::Global;
 use std::marker::Model;
-use up_journal::{Birth, Call, Entries, Reply};
+use up_journal::{Call, Entries, Reply};
 use up_num::{Memory, PageNo, Piece};
-use up_script::{Action, Line, Script};
+use up_script::{Action, Line, ObjectLine, Script};
 use up_state::{Object, packet, retry, supply, touch};
 
-/// Does a script's lines in file order, each as far as its actor comes, and gives the journal of its object.
-pub fn journal_of(alloc: Global, script: &Script) -> Result<Entries, Memory>
-    requires { built.is_built script.now ≡ true }
-    ensures legal { IfOk result (λ entries. legal.Legal (built.birth_of script.now) (reverse entries)) }
-    ensures steps { IfOk result (λ entries. steps.Steps script.now.lines (length script.now.lines) (reverse entries)) }
+/// Does a script's lines in file order, each as far as its actor comes, and gives the journals of its objects in their order.
+pub fn journals_of(alloc: Global, script: &Script) -> Result<Vec<Entries>, Memory>
+    requires sound { sound.is_sound script.now ≡ true }
+    requires built { built.unbuilt_line script.now ≡ None }
+    ensures { IfOk result (λ journals. AreJournalsOf script.now journals.items) }
 {
-    let mut stage = Stage::new(alloc, script.objects.at(0).birth, script.actors.len())?;
+    let mut stage = Stage::new(alloc, script.objects.as_slice(), script.actors.len())?;
     let done = stage.all_lines(alloc, script.lines.as_slice());
-    let entries = stage.end();
+    let ended = stage.end(alloc);
     done?;
-    Ok(entries)
+    ended
 }
 
-/// A script's object and actors, in the middle of the script.
+/// An object on which an actor waits, and its ticket there.
+#[derive(Clone, Copy, PartialEq, Eq, Debug)]
+pub struct Parked {
+    pub object: u32,
+    pub ticket: u64,
+}
+
+/// A script's objects and actors, in the middle of the script.
 struct Stage {
-    object: Object,
-    /// The ticket under which each actor waits.
-    waits: Vec<Option<u64>>,
+    objects: Vec<Object>,
+    /// Where each actor waits.
+    waits: Vec<Option<Parked>>,
     /// Up to which line the lines of each actor are done.
     done: Vec<usize>,
 }
@@ -43,44 +52,51 @@ impl Model for Stage {
 
     ghost Value = { Staged };
 
-    ghost use Rattle.pagerd.specs.Standing.{StageStands};
+    ghost use Rattle.pagerd.specs.Standing.{StageKeeps};
 
-    ghost view = { λ stage. record { birth = stage.object.birth; journal = stage.object.journal; done = stage.done.items } };
+    ghost view = { λ stage. record { lives = stage.objects.items; waits = stage.waits.items; done = stage.done.items } };
 
-    ghost invariant = { StageStands };
+    ghost invariant = { StageKeeps };
 }
 
 impl Stage {
-    fn new(alloc: Global, birth: Birth, actors: usize) -> Result<Stage, Memory>
-        requires { built.is_built_birth birth ≡ true }
-        ensures { IfOk result (λ stage. stage ≡ record { birth = birth; journal = []; done = replicate actors 0 }) }
+    fn new(alloc: Global, objects: &[ObjectLine], actors: usize) -> Result<Stage, Memory>
+        requires { list_all built.is_able_object objects.now ≡ true }
+        ensures { IfOk result (λ stage. stage ≡ record { lives = new_lives objects.now; waits = replicate actors None; done = replicate actors 0 }) }
     {
         let waits = nobody_waits(alloc, actors)?;
         let done = vec![in alloc; 0; actors]?;
-        let object = Object::birth(alloc, birth)?;
+        let objects = born(alloc, objects)?;
         Ok(Stage {
-            object,
+            objects,
             waits,
             done,
         })
     }
 
-    fn end(self) -> Entries
-        ensures journal { result ≡ reverse self.journal }
-        ensures legal { legal.Legal self.birth self.journal }
+    /// Ends all objects and gives their journals, oldest entry first.
+    fn end(self, alloc: Global) -> Result<Vec<Entries>, Memory>
+        ensures journals { IfOk result (λ ended. ended.items ≡ ends_of self.lives) }
+        ensures legal { AllLegal self.lives }
     {
         let Stage {
-            object,
+            objects,
             waits: _,
             done: _,
         } = self;
-        object.end()
+        match Vec::with_capacity(alloc, objects.len()) {
+            Ok(room) => Ok(end_all(objects, room)),
+            Err(failed) => {
+                let_go(objects);
+                Err(failed)
+            }
+        }
     }
 
-    /// The ticket under which an actor waits.
-    fn ticket_of(&self, who: u32) -> Option<u64>
+    /// Where an actor waits.
+    fn waiting(&self, who: u32) -> Option<Parked>
         requires { who < length self.now.done }
-        ensures { result ≡ waiting.waits_under self.now.journal who }
+        ensures { slice_get self.now.waits who ≡ Some result }
     {
         self.waits[who as usize]
     }
@@ -95,29 +111,33 @@ impl Stage {
     /// Makes the call of a line, which isn't a go.
     fn act(&mut self, alloc: Global, who: u32, action: &Action) -> Result<(), Memory>
         requires known { who < length self.old.done }
+        requires sound { sound.is_sound_action (length self.old.lives) action.now ≡ true }
         requires built { built.is_built_action action.now ≡ true }
         requires call { steps.is_go action.now ≡ false }
-        ensures { OnOk result (Acted self.old self.new who (steps.call_of action.now)) }
+        ensures { OnOk result (Acted self.old self.new who (steps.aim_of action.now)) }
     {
-        let reply = perform(&mut self.object, alloc, who, action)?;
-        self.waits[who as usize] = ticket_after(&reply, None);
+        let object = object_of(action);
+        let reply = perform(&mut self.objects[object as usize], alloc, who, action)?;
+        self.waits[who as usize] = parked_on(object, ticket_after(&reply, None));
         Ok(())
     }
 
     /// Retries the ticket under which an actor waits.
-    fn retry(&mut self, alloc: Global, who: u32, ticket: u64) -> Result<(), Memory>
+    fn retry(&mut self, alloc: Global, who: u32, parked: Parked) -> Result<(), Memory>
         requires known { who < length self.old.done }
-        requires waits { waiting.waits_under self.old.journal who ≡ Some ticket }
-        ensures { OnOk result (Acted self.old self.new who (RetryCall ticket NothingBrought)) }
+        requires waits { slice_get self.old.waits who ≡ Some (Some parked) }
+        ensures { OnOk result (Acted self.old self.new who (steps.retry_of parked)) }
     {
-        let reply = retry(&mut self.object, alloc, who, 0, ticket)?;
-        self.waits[who as usize] = ticket_after(&reply, Some(ticket));
+        let Parked { object, ticket } = parked;
+        let reply = retry(&mut self.objects[object as usize], alloc, who, 0, ticket)?;
+        self.waits[who as usize] = parked_on(object, ticket_after(&reply, Some(ticket)));
         Ok(())
     }
 
     /// Goes past a line, behind which stands line `next`, and makes its call where the line is this actor's.
     fn pass(&mut self, alloc: Global, line: &Line, who: u32, next: usize) -> Result<(), Memory>
         requires known { who < length self.old.done }
+        requires sound { sound.is_sound_action (length self.old.lives) line.now.action ≡ true }
         requires built { built.is_built_action line.now.action ≡ true }
         ensures { OnOk result (Passed self.old self.new line.now who next) }
     {
@@ -131,13 +151,12 @@ impl Stage {
     /// Does the lines of an actor up to line `end`, until it waits.
     fn go_on(&mut self, alloc: Global, lines: &[Line], who: u32, end: usize) -> Result<(), Memory>
         requires known { who < length self.old.done }
-        requires built { built.are_built (length self.old.done) lines.now ≡ true }
+        requires able { built.are_able (length self.old.lives) (length self.old.done) lines.now ≡ true }
         requires within { end ≤ length lines.now }
-        requires paced { Paced lines.now end self.old.done self.old.journal }
         ensures { OnOk result (WentOn lines.now who end self.old self.new) }
     {
         for at in self.done_to(who)..end {
-            if self.ticket_of(who).is_some() {
+            if self.waiting(who).is_some() {
                 return Ok(());
             }
             self.pass(alloc, &lines[at], who, at + 1)?;
@@ -148,22 +167,23 @@ impl Stage {
     /// Begins a line: at a go an actor that waits retries its ticket.
     fn begin(&mut self, alloc: Global, line: &Line) -> Result<(), Memory>
         requires { line.now.actor < length self.old.done }
-        ensures { OnOk result (Began self.old self.new line.now) }
+        ensures known { line.now.actor < length self.old.waits }
+        ensures began { OnOk result (Began self.old self.new line.now) }
     {
+        let waiting = self.waiting(line.actor);
         if !is_go(&line.action) {
             return Ok(());
         }
-        match self.ticket_of(line.actor) {
+        match waiting {
             None => Ok(()),
-            Some(ticket) => self.retry(alloc, line.actor, ticket),
+            Some(parked) => self.retry(alloc, line.actor, parked),
         }
     }
 
     /// Does line `at`: its actor goes on with its lines up to this one.
     fn line(&mut self, alloc: Global, lines: &[Line], at: usize) -> Result<(), Memory>
-        requires built { built.are_built (length self.old.done) lines.now ≡ true }
+        requires able { built.are_able (length self.old.lives) (length self.old.done) lines.now ≡ true }
         requires within { at < length lines.now }
-        requires paced { Paced lines.now at self.old.done self.old.journal }
         ensures { OnOk result (Did lines.now at self.old self.new) }
     {
         let line = &lines[at];
@@ -172,11 +192,8 @@ impl Stage {
     }
 
     fn all_lines(&mut self, alloc: Global, lines: &[Line]) -> Result<(), Memory>
-        requires built { built.are_built (length self.old.done) lines.now ≡ true }
-        requires first { self.old.journal ≡ [] }
-        requires paced { Paced lines.now 0 self.old.done self.old.journal }
-        ensures birth { OnOk result (self.new.birth ≡ self.old.birth) }
-        ensures steps { OnOk result (steps.Steps lines.now (length lines.now) self.new.journal) }
+        requires { built.are_able (length self.old.lives) (length self.old.done) lines.now ≡ true }
+        ensures { OnOk result (GoneThrough lines.now (length lines.now) self.old self.new) }
     {
         for at in 0..lines.len() {
             self.line(alloc, lines, at)?;
@@ -185,15 +202,68 @@ impl Stage {
     }
 }
 
-fn nobody_waits(alloc: Global, actors: usize) -> Result<Vec<Option<u64>>, Memory>
-    ensures count { IfOk result (λ waits. length waits.items ≡ actors) }
-    ensures each { IfOk result (λ waits. (who : ℕ) → who < length waits.items → slice_get waits.items who ≡ Some None) }
+/// So many actors, of which none waits.
+fn nobody_waits(alloc: Global, actors: usize) -> Result<Vec<Option<Parked>>, Memory>
+    ensures { IfOk result (λ waits. waits.items ≡ replicate actors None) }
 {
     let mut waits = Vec::new(alloc);
     while waits.len() < actors {
         waits.push(None)?;
     }
     Ok(waits)
+}
+
+/// New objects, with no entry yet.
+fn born(alloc: Global, lines: &[ObjectLine]) -> Result<Vec<Object>, Memory>
+    requires { list_all built.is_able_object lines.now ≡ true }
+    ensures { IfOk result (λ objects. objects.items ≡ new_lives lines.now) }
+{
+    let mut objects = Vec::with_capacity(alloc, lines.len())?;
+    for line in lines {
+        match Object::birth(alloc, line.birth) {
+            Ok(object) => objects.push_reserved(object),
+            Err(failed) => {
+                let_go(objects);
+                return Err(failed);
+            }
+        }
+    }
+    Ok(objects)
+}
+
+/// Ends all objects, and gives their journals.
+fn end_all(objects: Vec<Object>, room: Vec<Entries>) -> Vec<Entries>
+    requires empty { room.items ≡ [] }
+    requires enough { vec_len objects ≤ vec_capacity room }
+    ensures { result.items ≡ ends_of objects.items }
+{
+    let mut rest = objects;
+    let mut ended = room;
+    while let Some(object) = rest.pop() {
+        ended.push_reserved(object.end());
+    }
+    rest.destroy_empty();
+    ended.reverse();
+    ended
+}
+
+/// Ends all objects, and lets their journals go.
+fn let_go(objects: Vec<Object>) {
+    let mut rest = objects;
+    while let Some(object) = rest.pop() {
+        object.end();
+    }
+    rest.destroy_empty();
+}
+
+/// Where an actor waits that has this ticket on an object.
+fn parked_on(object: u32, ticket: Option<u64>) -> Option<Parked>
+    ensures { result ≡ steps.parked_at object ticket }
+{
+    match ticket {
+        None => None,
+        Some(ticket) => Some(Parked { object, ticket }),
+    }
 }
 
 /// The ticket under which an actor waits after a call with this reply, where it retried that one.
@@ -216,8 +286,19 @@ fn is_go(action: &Action) -> bool
     }
 }
 
-/// Makes the call of a line on the object, at epoch 0.
+/// The object of a line that isn't a go.
+fn object_of(action: &Action) -> u32
+    ensures { result ≡ steps.object_at action.now }
+{
+    match action {
+        Action::Read { object, .. } | Action::Act { object, .. } => *object,
+        _ => 0,
+    }
+}
+
+/// Makes the call of a line on its object, at epoch 0.
 fn perform(object: &mut Object, alloc: Global, who: u32, action: &Action) -> Result<Reply, Memory>
+    requires limits { built.has_limits action.now ≡ true }
     requires built { built.is_built_action action.now ≡ true }
     requires call { steps.is_go action.now ≡ false }
     ensures reply { IfOk result (λ reply. reply ≡ replies.reply object.old.birth object.old.journal who 0 (steps.call_of action.now)) }

@@ -87,7 +87,17 @@ fn scripts_print_their_entries(rt: HostRuntime) -> Result<(), Fail> {
 #[test]
 fn other_words_are_told(rt: HostRuntime) -> Result<(), Fail> {
     let alloc = rt.alloc();
-    for line in ["", "steps", "run", "step x", "check", "gen 7 1", "--help"] {
+    for line in [
+        "",
+        "steps",
+        "run",
+        "step x",
+        "check",
+        "gen 7 1",
+        "gen 07 1",
+        "gen -- 7 1",
+        "--help",
+    ] {
         let mut words = Vec::new(alloc);
         for word in line.split_whitespace() {
             words.push(String::from_str(alloc, word)?)?;
@@ -102,27 +112,162 @@ fn other_words_are_told(rt: HostRuntime) -> Result<(), Fail> {
     Ok(())
 }
 
+/// Does a text by `step` and compares its fault, behind the word.
+fn check_fault(rt: &impl Abort, alloc: Global, text: &[u8], fault: &str) -> Result<(), Fail> {
+    let expected = format!(in alloc; "fault {fault}\n")?;
+    let mut source = PlainSource::new(alloc, text)?;
+    let mut sink = MemSink::new(alloc, &[], 100)?;
+    let status = alone(alloc, step_words(alloc)?.as_slice(), &mut source, &mut sink);
+    assert_eq!(rt; status, 3, "{fault}");
+    assert!(rt; sink.written() == expected.as_bytes(), "{fault}");
+    Ok(())
+}
+
 #[test]
-fn another_text_is_unbuilt(rt: HostRuntime) -> Result<(), Fail> {
+fn bad_scripts_have_their_first_fault(rt: HostRuntime) -> Result<(), Fail> {
     let alloc = rt.alloc();
-    for lines in [
-        "u write a 0 41*1\n",
-        "u read a 0 1",
-        "\n",
-        "e age\n",
-        "u read a 0 0\n",
-    ] {
+    let rows = [
+        ("u read a 01 1\n", "9 number"),
+        ("u read a 0 18446744073709551616\n", "9 number"),
+        ("u read a 0 0\n", "9 number"),
+        ("u  read a 0 1\n", "9 word"),
+        ("u read a 0\n", "9 word"),
+        ("x read a 0 1\n", "9 name"),
+        ("u read b 0 1\n", "9 name"),
+        ("p supply a 0 1 61*4097\n", "9 bytes"),
+        ("u write a 0 41*1+41*1\n", "9 bytes"),
+        ("u supply a 0 1 61*4096\n", "9 role"),
+        ("u leave a\nu read a 0 1\n", "10 left"),
+        ("u go", "9 cut"),
+        ("# u go\n\nu go\nu gone\n", "12 word"),
+    ];
+    for (lines, fault) in rows {
         let script = format!(in alloc; "{HEAD}{lines}")?;
-        let mut source = PlainSource::new(alloc, script.as_bytes())?;
-        let mut sink = MemSink::new(alloc, &[], 100)?;
-        let status = alone(alloc, step_words(alloc)?.as_slice(), &mut source, &mut sink);
-        assert_eq!(rt; status, 3, "{lines}");
-        assert!(rt;
-            sink.written() == b"fault 0 unbuilt\n".as_slice(),
-            "{lines}"
-        );
+        check_fault(&rt, alloc, script.as_bytes(), fault)?;
+    }
+    check_fault(&rt, alloc, b"", "1 header")?;
+    let declared = HEAD
+        .strip_suffix("steps\n")
+        .ok_or("the head ends with steps")?;
+    check_fault(&rt, alloc, declared.as_bytes(), "8 missing")?;
+    let mut long = Vec::from_slice(alloc, HEAD.as_bytes())?;
+    long.resize(long.len() + 4097, b'#')?;
+    long.push(b'\n')?;
+    check_fault(&rt, alloc, &long, "9 long")
+}
+
+/// Scripts that are in the grammar, and the first line of a form that isn't built.
+#[test]
+fn lines_that_are_not_built_are_told(rt: HostRuntime) -> Result<(), Fail> {
+    let alloc = rt.alloc();
+    let rows = [
+        ("u write a 0 41*1", "9 unbuilt"),
+        ("u read a 4095 2", "9 unbuilt"),
+        ("u always a 0 1", "9 unbuilt"),
+        ("u cold a 0 1", "9 unbuilt"),
+        ("u pin a 0 1", "9 unbuilt"),
+        ("u unpin a 0 1", "9 unbuilt"),
+        ("u resize a 1", "9 unbuilt"),
+        ("u zero a 0 1", "9 unbuilt"),
+        ("u leave a", "9 unbuilt"),
+        ("p fail a 0 1 io", "9 unbuilt"),
+        ("p dirty a 0 1", "9 unbuilt"),
+        ("p begin a 0 1 any", "9 unbuilt"),
+        ("p end a 0 1", "9 unbuilt"),
+        ("p query a 0 1 1", "9 unbuilt"),
+        ("p stats a keep", "9 unbuilt"),
+        ("p detach a", "9 unbuilt"),
+        ("u go\np supply a 0 2 61*8192", "10 unbuilt"),
+        ("e age", "9 unbuilt"),
+        ("e watch", "9 unbuilt"),
+        ("e relieve 1", "9 unbuilt"),
+        ("e evict a 0 1", "9 unbuilt"),
+        ("e borrow a 0", "9 unbuilt"),
+        ("e recall", "9 unbuilt"),
+        ("e lend", "9 unbuilt"),
+        ("u read a 0 1\nu write a 0 41*1\np detach a", "10 unbuilt"),
+    ];
+    for (lines, fault) in rows {
+        let script = format!(in alloc; "{HEAD}{lines}\n")?;
+        check_fault(&rt, alloc, script.as_bytes(), fault)?;
     }
     Ok(())
+}
+
+/// The lines behind the first of a script up to `steps`, and the first one that isn't built.
+#[test]
+fn declarations_that_are_not_built_are_told(rt: HostRuntime) -> Result<(), Fail> {
+    let alloc = rt.alloc();
+    let rows = [
+        (
+            "frames 60\nobject a 2 - free -\nuser u a\npager p a\nsteps\n",
+            "3 unbuilt",
+        ),
+        (
+            "frames 60\nobject a 1 2 free -\nuser u a\npager p a\nsteps\n",
+            "3 unbuilt",
+        ),
+        (
+            "frames 60\nobject a 1 - trap -\nuser u a\npager p a\nsteps\n",
+            "3 unbuilt",
+        ),
+        (
+            "frames 60\nloan 1\nobject a 1 - free -\nuser u a\npager p a\nsteps\n",
+            "3 unbuilt",
+        ),
+        (
+            "frames 8\nobject s 2 4 free img\nuser u s\nworker w s\nsteps\n",
+            "3 unbuilt",
+        ),
+        (
+            "frames 8\nobject a 1 - free -\nobject s 1 - free img\nuser u s a\npager p a\nworker w s\nsteps\n",
+            "4 unbuilt",
+        ),
+        (
+            "frames 1\nobject a 1 - free -\nuser u a\npager p a\nsteps\np supply a 0 1 61*4096\n",
+            "2 unbuilt",
+        ),
+        (
+            "# few\n\nframes 1\nobject a 1 - free -\nobject b 1 - free -\nuser u a b\npager p a b\nsteps\n",
+            "4 unbuilt",
+        ),
+    ];
+    for (lines, fault) in rows {
+        let script = format!(in alloc; "pagerd-script 1\n{lines}")?;
+        check_fault(&rt, alloc, script.as_bytes(), fault)?;
+    }
+    Ok(())
+}
+
+/// Does a whole script by `step` and compares the output.
+fn check_script(rt: &impl Abort, alloc: Global, script: &str, journals: &str) -> Result<(), Fail> {
+    let mut source = PlainSource::new(alloc, script.as_bytes())?;
+    let mut sink = MemSink::new(alloc, &[], 100_000)?;
+    let status = alone(alloc, step_words(alloc)?.as_slice(), &mut source, &mut sink);
+    assert_eq!(rt; status, 0);
+    assert!(rt; sink.written() == journals.as_bytes());
+    Ok(())
+}
+
+#[test]
+fn each_object_has_its_journal(rt: HostRuntime) -> Result<(), Fail> {
+    check_script(
+        &rt,
+        rt.alloc(),
+        "pagerd-script 1\n# a comment\nframes 8\nlevels 8 0\n\nobject a 1 - free -\nobject b 1 - free -\nuser u a b\npager p b a\nsteps\nu read b 0 1\n",
+        "pagerd-journal 1\njournal a 1 - free 1 1 -\nend 0\njournal b 1 - free 1 1 -\n0 0 0 read 0 1 0 - -> blocked 0\nend 1\ndone\n",
+    )
+}
+
+/// An actor that waits on one object does its line on the other when it goes on.
+#[test]
+fn an_actor_waits_on_one_object_at_a_time(rt: HostRuntime) -> Result<(), Fail> {
+    check_script(
+        &rt,
+        rt.alloc(),
+        "pagerd-script 1\nframes 8\nobject a 1 - free -\nobject b 1 - free -\nuser u a b\nuser v b\npager p a b\nsteps\nu read a 0 1\nu read b 0 1\nv read b 1 1\np packet b\np supply b 0 1 62*4096\np supply a 0 1 61*4096\nu go\nv go\n",
+        "pagerd-journal 1\njournal a 1 - free 1 1 -\n0 0 0 read 0 1 0 - -> blocked 0\n1 2 0 supply 0 1 61*4096 f1 -> took 1 woke 0\n2 0 0 retry 0 - -> bytes 61*1\nend 3\njournal b 1 - free 2 1 -\n0 1 0 read 1 1 0 - -> blocked 0\n1 2 0 packet -> packet read 0 1\n2 2 0 supply 0 1 62*4096 f1 -> took 1 woke 0\n3 0 0 read 0 1 0 - -> bytes 62*1\n4 1 0 retry 0 - -> bytes 62*1\nend 5\ndone\n",
+    )
 }
 
 /// The script by a source that gives one byte a call, and fails at this call.

@@ -1,43 +1,91 @@
-ghost use Rattle.std.specs.Prelude.{◌≡◌, ◌+◌, ◌<◌, ◌++◌, OnOk, OnErr, decimal, codes};
-ghost use Rattle.pagerd.specs.Text.{bytes_text, birth_text, call_text, code_text, entries_text, entry_text, frames_text, hex, journal_text, limit_text, list_text, more_text, packet_text, refusal_text, reply_text, run_text, text_from, then_number, then_range};
+ghost use Rattle.std.specs.Prelude.{◌≡◌, ◌<◌, ◌++◌, IfOk, OnOk, OnErr, decimal, codes};
+ghost use Rattle.up_words.specs.Runs.{bytes_text, hex, run_text, text_from};
+ghost use Rattle.pagerd.specs.Text.{birth_text, call_text, code_text, entries_text, entry_text, fault_text, frames_text, journals_text, limit_text, list_text, more_text, packet_text, part_text, parts_text, refusal_text, reply_text, then_number, then_range, why_text};
 
 #[cfg(test)]
 mod tests;
 
 use itoa::Buffer;
+use std::alloc::Global;
 use up_journal::{Birth, Brought, Call, Entries, Entry, Reply};
 use up_num::{Bytes, Code, Memory, Packet, PageRange, Refusal};
+use up_script::{ObjectLine, Why};
 
-/// Appends the text of an object's journal: its name, its birth, and its entries, oldest first. Calls that are
-/// not built yet have no text, nor have their replies.
-pub fn write_journal(
-    name: &Bytes,
-    birth: &Birth,
-    entries: &Entries,
+/// Appends the text of the journals of these objects, oldest entry first. Calls that are not built yet have no text, nor
+/// have their replies.
+pub fn write_journals(
+    objects: &[ObjectLine],
+    journals: &[Entries],
     out: &mut Vec<u8>,
 ) -> Result<(), Memory>
-    ensures ok { OnOk result (out.new.items ≡ out.old.items ++ journal_text name.now birth.now entries.now) }
+    ensures ok { OnOk result (out.new.items ≡ out.old.items ++ journals_text objects.now journals.now) }
     ensures same { OnErr result (out.new.items ≡ out.old.items) }
 {
     let mut text = Vec::new(*out.allocator());
-    put_journal(&mut text, name, birth, entries)?;
+    text.extend_from_slice(b"pagerd-journal 1\n")?;
+    put_parts(&mut text, objects, journals)?;
+    text.extend_from_slice(b"done\n")?;
     out.extend_from_slice(text.as_slice())
 }
 
-fn put_journal(
-    out: &mut Vec<u8>,
-    name: &Bytes,
-    birth: &Birth,
-    entries: &Entries,
-) -> Result<(), Memory>
-    ensures { OnOk result (out.new.items ≡ out.old.items ++ journal_text name.now birth.now entries.now) }
+#[tactic(auto, unfolding(crate::specs::Text::parts_text))]
+fn put_parts(out: &mut Vec<u8>, objects: &[ObjectLine], journals: &[Entries]) -> Result<(), Memory>
+    ensures { OnOk result (out.new.items ≡ out.old.items ++ parts_text objects.now journals.now) }
 {
-    out.extend_from_slice(b"pagerd-journal 1\n")?;
-    put_birth(out, name, birth)?;
+    let mut objects_left = objects;
+    let mut journals_left = journals;
+    while let [object, objects_behind @ ..] = objects_left {
+        let [journal, journals_behind @ ..] = journals_left else {
+            return Ok(());
+        };
+        put_part(out, object, journal)?;
+        objects_left = objects_behind;
+        journals_left = journals_behind;
+    }
+    Ok(())
+}
+
+fn put_part(out: &mut Vec<u8>, object: &ObjectLine, entries: &Entries) -> Result<(), Memory>
+    ensures { OnOk result (out.new.items ≡ out.old.items ++ part_text object.now entries.now) }
+{
+    put_birth(out, &object.name, &object.birth)?;
     put_entries(out, entries.as_slice())?;
     out.extend_from_slice(b"end")?;
     put_then_number(out, entries.len() as u64)?;
-    out.extend_from_slice(b"\ndone\n")
+    out.extend_from_slice(b"\n")
+}
+
+/// The text of a fault at a line.
+pub fn fault_at(alloc: Global, line: u32, reason: &[u8]) -> Result<Vec<u8>, Memory>
+    ensures { IfOk result (λ text. text.items ≡ fault_text line reason.now) }
+{
+    let mut text = Vec::new(alloc);
+    text.extend_from_slice(b"fault")?;
+    put_then_number(&mut text, u64::from(line))?;
+    text.extend_from_slice(b" ")?;
+    text.extend_from_slice(reason)?;
+    text.extend_from_slice(b"\n")?;
+    Ok(text)
+}
+
+/// The word for a reason.
+pub fn why_word(why: Why) -> &'static [u8]
+    ensures { result.now ≡ why_text why }
+{
+    match why {
+        Why::Long => b"long",
+        Why::Limit => b"limit",
+        Why::Cut => b"cut",
+        Why::Header => b"header",
+        Why::Word => b"word",
+        Why::Name => b"name",
+        Why::Number => b"number",
+        Why::Bytes => b"bytes",
+        Why::Role => b"role",
+        Why::Left => b"left",
+        Why::Missing => b"missing",
+        Why::Order => b"order",
+    }
 }
 
 #[tactic(auto, unfolding(crate::specs::Text::birth_text))]
@@ -261,7 +309,7 @@ fn put_bytes(out: &mut Vec<u8>, bytes: &[u8]) -> Result<(), Memory>
 }
 
 // The runs of a byte and of those behind it.
-#[tactic(auto, unfolding(crate::specs::Text::text_from))]
+#[tactic(auto, unfolding(up_words::specs::Runs::text_from))]
 fn put_runs(out: &mut Vec<u8>, first: u8, bytes: &[u8]) -> Result<(), Memory>
     ensures { OnOk result (out.new.items ≡ out.old.items ++ text_from first 1 bytes.now) }
 {

@@ -1,11 +1,12 @@
-ghost use Rattle.std.specs.Prelude.{◌≡◌, ◌≢◌, ◌↔◌, [], ◌∷◌, map, string_bytes, IsTrue, IfOk, IfErr, None, ◌⊎◌, Contains};
+ghost use Rattle.std.specs.Prelude.{◌≡◌, ◌≢◌, ◌↔◌, [], ◌∷◌, map, string_bytes, IsTrue, IfOk, IfErr, ◌⊎◌, Contains};
 ghost use Rattle.up_outside.specs.Cause.{Rose};
-ghost use Rattle.up_script.specs.Reading.{script_of};
-ghost use Rattle.pagerd.specs.Top.{IsStep, Makes, IsNoScript, IsScript, Spells, Took, TookFront, whole_journal, words_fault, script_fault, status_of};
+ghost use Rattle.pagerd.specs.Top.{IsStep, IsSaid, IsAnswer, IsScript, Took, TookFront, whole_journals, words_fault, text_fault, unbuilt_fault, status_of};
 
-use crate::steps::journal_of;
-use crate::text::write_journal;
+use crate::built::find_unbuilt;
+use crate::steps::journals_of;
+use crate::text::{fault_at, why_word, write_journals};
 use std::alloc::Global;
+use up_num::Memory;
 use up_outside::{ReadStop, Sink, Source, push_all, read_to};
 use up_script::{ReadFault, read_script};
 
@@ -16,9 +17,10 @@ const TEXT: usize = 4_194_304;
 ///
 /// | Status | Comes | The sink took |
 /// |---|---|---|
-/// | 0 | all was done and written | the journal's text |
+/// | 0 | all was done and written | the journals' text |
 /// | 2 | the words aren't the one word `step` | `words` |
-/// | 3 | the text isn't of the form that is read today | `fault 0 unbuilt` |
+/// | 3 | the text is outside its grammar or a limit | `fault LINE WHY`, the first fault |
+/// | 3 | a line has a form that isn't built yet | `fault LINE unbuilt`, the first such line |
 /// | 4 | only where the source failed | nothing |
 /// | 5 | only where the sink failed | some first bytes of the text that 0, 2 or 3 would have written |
 /// | 7 | want of memory | nothing |
@@ -28,9 +30,9 @@ pub fn alone<S: Source, K: Sink>(
     source: &mut S,
     sink: &mut K,
 ) -> u8
-    ensures done { result ≡ 0 → Took whole_journal (map string_bytes words.now) (S.left source.old) (S.left source.new) (K.written sink.old) (K.written sink.new) }
+    ensures done { result ≡ 0 → Took whole_journals (map string_bytes words.now) (S.left source.old) (S.left source.new) (K.written sink.old) (K.written sink.new) }
     ensures words { result ≡ 2 → Took words_fault (map string_bytes words.now) (S.left source.old) (S.left source.new) (K.written sink.old) (K.written sink.new) }
-    ensures unread { result ≡ 3 → Took script_fault (map string_bytes words.now) (S.left source.old) (S.left source.new) (K.written sink.old) (K.written sink.new) }
+    ensures unread { result ≡ 3 → (Took text_fault (map string_bytes words.now) (S.left source.old) (S.left source.new) (K.written sink.old) (K.written sink.new)) ⊎ (Took unbuilt_fault (map string_bytes words.now) (S.left source.old) (S.left source.new) (K.written sink.old) (K.written sink.new)) }
     ensures source { result ≡ 4 → Rose (S.faults source.old) (S.faults source.new) × (sink.new ≡ sink.old) }
     ensures sink { result ≡ 5 → Rose (K.faults sink.old) (K.faults sink.new) × TookFront (map string_bytes words.now) (S.left source.old) (S.left source.new) (K.written sink.old) (K.written sink.new) }
     ensures memory { result ≡ 7 → sink.new ≡ sink.old }
@@ -69,9 +71,9 @@ fn status(ended: Ended) -> u8
 }
 
 fn run<S: Source, K: Sink>(alloc: Global, words: &[String], source: &mut S, sink: &mut K) -> Ended
-    ensures done { result ≡ Ended.Written → Took whole_journal (map string_bytes words.now) (S.left source.old) (S.left source.new) (K.written sink.old) (K.written sink.new) }
+    ensures done { result ≡ Ended.Written → Took whole_journals (map string_bytes words.now) (S.left source.old) (S.left source.new) (K.written sink.old) (K.written sink.new) }
     ensures words { result ≡ Ended.Words → Took words_fault (map string_bytes words.now) (S.left source.old) (S.left source.new) (K.written sink.old) (K.written sink.new) }
-    ensures unread { result ≡ Ended.Unread → Took script_fault (map string_bytes words.now) (S.left source.old) (S.left source.new) (K.written sink.old) (K.written sink.new) }
+    ensures unread { result ≡ Ended.Unread → (Took text_fault (map string_bytes words.now) (S.left source.old) (S.left source.new) (K.written sink.old) (K.written sink.new)) ⊎ (Took unbuilt_fault (map string_bytes words.now) (S.left source.old) (S.left source.new) (K.written sink.old) (K.written sink.new)) }
     ensures source { result ≡ Ended.Source → Rose (S.faults source.old) (S.faults source.new) × (sink.new ≡ sink.old) }
     ensures sink { result ≡ Ended.Sink → Rose (K.faults sink.old) (K.faults sink.new) × TookFront (map string_bytes words.now) (S.left source.old) (S.left source.new) (K.written sink.old) (K.written sink.new) }
     ensures memory { result ≡ Ended.Memory → sink.new ≡ sink.old }
@@ -84,17 +86,24 @@ fn run<S: Source, K: Sink>(alloc: Global, words: &[String], source: &mut S, sink
             Err(_) => Ended::Sink,
         };
     }
-    match step(alloc, source) {
-        Ok(text) => match push_all(sink, text.as_slice()) {
+    let answer = match step(alloc, source) {
+        Ok(answer) => answer,
+        Err(Stop::Source) => return Ended::Source,
+        Err(Stop::Memory) => return Ended::Memory,
+    };
+    match answer {
+        Answer::Journals(text) => match push_all(sink, text.as_slice()) {
             Ok(()) => Ended::Written,
             Err(_) => Ended::Sink,
         },
-        Err(Stop::Unread) => match push_all(sink, b"fault 0 unbuilt\n") {
+        Answer::Bad(text) => match push_all(sink, text.as_slice()) {
             Ok(()) => Ended::Unread,
             Err(_) => Ended::Sink,
         },
-        Err(Stop::Source) => Ended::Source,
-        Err(Stop::Memory) => Ended::Memory,
+        Answer::Unbuilt(text) => match push_all(sink, text.as_slice()) {
+            Ok(()) => Ended::Unread,
+            Err(_) => Ended::Sink,
+        },
     }
 }
 
@@ -107,17 +116,22 @@ fn is_step(words: &[String]) -> bool
     }
 }
 
-/// Why there is no journal's text.
+/// What is to be told of a script's text: its journals, its first fault, or its first line of a form that isn't built.
+enum Answer {
+    Journals(Vec<u8>),
+    Bad(Vec<u8>),
+    Unbuilt(Vec<u8>),
+}
+
+/// Why there is nothing to tell.
 enum Stop {
-    Unread,
     Source,
     Memory,
 }
 
-/// Reads a script, does it, and gives its journal's text.
-fn step<S: Source>(alloc: Global, source: &mut S) -> Result<Vec<u8>, Stop>
-    ensures text { IfOk result (λ text. Makes (S.left source.old) (S.left source.new) text.items) }
-    ensures unread { IfErr result (λ stop. stop ≡ Stop.Unread → IsNoScript (S.left source.old) (S.left source.new)) }
+/// Reads a script, does it, and gives what is to be told.
+fn step<S: Source>(alloc: Global, source: &mut S) -> Result<Answer, Stop>
+    ensures answer { IfOk result (λ answer. IsSaid (S.left source.old) (S.left source.new) answer) }
     ensures source { IfErr result (λ stop. stop ≡ Stop.Source → Rose (S.faults source.old) (S.faults source.new)) }
 {
     let bytes = match read_to(alloc, source, TEXT) {
@@ -125,27 +139,30 @@ fn step<S: Source>(alloc: Global, source: &mut S) -> Result<Vec<u8>, Stop>
         Err(ReadStop::Source) => return Err(Stop::Source),
         Err(ReadStop::Memory) => return Err(Stop::Memory),
     };
-    text_of(alloc, bytes.as_slice())
+    match answer_to(alloc, bytes.as_slice()) {
+        Ok(answer) => Ok(answer),
+        Err(_) => Err(Stop::Memory),
+    }
 }
 
-/// The text of the journal that a script's text makes.
-fn text_of(alloc: Global, bytes: &[u8]) -> Result<Vec<u8>, Stop>
-    ensures text { IfOk result (λ text. Spells bytes.now text.items) }
-    ensures unread { IfErr result (λ stop. stop ≡ Stop.Unread → script_of bytes.now ≡ None) }
-    ensures other { IfErr result (λ stop. stop ≢ Stop.Source) }
+/// What is to be told of a script's text.
+fn answer_to(alloc: Global, bytes: &[u8]) -> Result<Answer, Memory>
+    ensures { IfOk result (λ answer. IsAnswer bytes.now answer) }
 {
     let script = match read_script(alloc, bytes) {
         Ok(script) => script,
-        Err(ReadFault::Unbuilt) => return Err(Stop::Unread),
-        Err(ReadFault::Memory) => return Err(Stop::Memory),
+        Err(ReadFault::Bad { line, why }) => {
+            let text = fault_at(alloc, line, why_word(why))?;
+            return Ok(Answer::Bad(text));
+        }
+        Err(ReadFault::Memory) => return Err(Memory {}),
     };
-    let Ok(entries) = journal_of(alloc, &script) else {
-        return Err(Stop::Memory);
-    };
-    let mut text = Vec::new(alloc);
-    let object = script.objects.at(0);
-    match write_journal(&object.name, &object.birth, &entries, &mut text) {
-        Ok(()) => Ok(text),
-        Err(_) => Err(Stop::Memory),
+    if let Some(line) = find_unbuilt(&script) {
+        let text = fault_at(alloc, line, b"unbuilt")?;
+        return Ok(Answer::Unbuilt(text));
     }
+    let journals = journals_of(alloc, &script)?;
+    let mut text = Vec::new(alloc);
+    write_journals(script.objects.as_slice(), journals.as_slice(), &mut text)?;
+    Ok(Answer::Journals(text))
 }

@@ -48,6 +48,13 @@ impl<T> Items<T> {
         Items { items }
     }
 
+    /// The items, as a vector.
+    pub fn into_vec(self) -> Vec<T>
+        ensures { result.items ≡ self }
+    {
+        self.items
+    }
+
     pub fn as_slice(&self) -> &[T]
         ensures { result.now ≡ self.now }
     {

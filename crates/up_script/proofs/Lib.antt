@@ -1,3 +1,2 @@
-pub mod Steps
-pub mod Fronts
-pub mod Decimals
+pub mod Counts
+pub mod Faults

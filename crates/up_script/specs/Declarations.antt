@@ -1,74 +1,190 @@
--- The lines before the actions: the header, the frames, the object and the actors.
-use Rattle.std.specs.Prelude.{ℕ, ◌&&◌, ◌++◌, Bool, cond, not, List, [], ◌∷◌, Option, Some, None, codes, is_some, length, nat_lt}
+-- The lines before the actions, each with its number in the text.
+use Rattle.std.specs.Prelude.{ℕ, ◌/◌, ◌&&◌, ◌++◌, ◌||◌, Bool, true, false, cond, not, zero, suc, List, [], ◌∷◌, Option, Some, None, Result, Ok, Err, codes, drop, is_some, length, nat_le, nat_lt}
+use Rattle.std.specs.List.{list_all}
 use Rattle.std.specs.Str.{bytes_eq}
-use Rattle.up_script.specs.Steps.{◌>>=◌, check}
-use Rattle.up_script.specs.Words.{word_at, word_is, verb_is}
-use Rattle.up_script.specs.Numbers.{number_between}
-use Rattle.up_script.specs.Actors.{is_name, actor_from, users_of, pagers_of}
+use Rattle.up_words.specs.Steps.{◌>>=◌, check, or_why, each}
+use Rattle.up_words.specs.Words.{word_at, word_is, verb_is}
+use Rattle.up_words.specs.Numbers.{number_between}
+use Rattle.up_words.specs.Names.{is_name}
+use Rattle.up_words.specs.declared.fault.Why.{Why}
+use Rattle.up_words.specs.declared.fault.Why.TheVariants as why
+use Rattle.up_script.specs.Objects.{object_named, actor_named, image_named, has_image, is_among, counted, is_served}
 use Rattle.up_script.specs.declared.declarations.Declared.{Declared}
-use Rattle.up_script.specs.declared.reading.Stage.{Stage}
-use Rattle.up_script.specs.declared.reading.Stage.TheVariants as stages
+use Rattle.up_script.specs.declared.declarations.Last.{Last}
+use Rattle.up_script.specs.declared.declarations.Stock.{Stock}
+use Rattle.up_script.specs.declared.declarations.Last.TheVariants as last
+use Rattle.up_script.specs.declared.script.ActorLine.{ActorLine}
 use Rattle.up_script.specs.declared.script.Kind.{Kind}
-use Rattle.up_script.specs.declared.script.Kind.TheVariants.{User, Pager, Evictor}
+use Rattle.up_script.specs.declared.script.Kind.TheVariants.{User, Pager, Worker, Evictor}
+use Rattle.up_script.specs.declared.script.ObjectLine.{ObjectLine}
 
--- the first line is fixed
-abbrev pub header_line : List (List ℕ) → Option Stage
-header_line words = do
-  fixed ← check (verb_is words 0 (codes "pagerd-script") 2 && word_is words 1 (codes "1"))
-  Some stages.Frames
+-- Declarations come in this order: frames, loan, levels, objects, actors. Each but the frames has them before it.
+abbrev pub is_first : Last → Bool
+is_first last.Nothing = true
+is_first _ = false
 
--- eight frames
-abbrev pub frames_line : List (List ℕ) → Option Stage
-frames_line words = do
-  verb ← check (verb_is words 0 (codes "frames") 2)
-  frames ← number_between 8 8 (word_at words 1)
-  Some stages.Object
+abbrev pub may_loan : Last → Bool
+may_loan last.Frames = true
+may_loan _ = false
 
--- an object of one page, of fixed size, that doesn't trap and has no image
-abbrev pub object_line : List (List ℕ) → Option Stage
-object_line words = do
-  verb ← check (verb_is words 0 (codes "object") 6 && word_is words 3 (codes "-") && word_is words 4 (codes "free") && word_is words 5 (codes "-"))
-  name ← check (is_name (word_at words 1))
-  pages ← number_between 1 1 (word_at words 2)
-  Some (stages.Declaring (record { object = word_at words 1; actors = [] }))
+abbrev pub may_level : Last → Bool
+may_level last.Frames = true
+may_level last.Loan = true
+may_level _ = false
 
--- a word that can name one more actor: a name that neither the object nor an actor has
-abbrev pub new_name : Declared → List ℕ → Option (List ℕ)
+abbrev pub may_object : Last → Bool
+may_object last.Nothing = false
+may_object last.Actor = false
+may_object _ = true
+
+-- nothing is declared yet
+abbrev pub nothing_declared : Declared
+nothing_declared = record {
+  last = last.Nothing;
+  stock = record { frames = 0; frames_line = 0; loan = 0; loan_line = 0; warn = 0; critical = 0 };
+  objects = [];
+  actors = [];
+}
+
+-- the stock with so many loaned frames
+abbrev pub with_loan : Stock → ℕ → ℕ → Stock
+with_loan stock line loan =
+    record { frames = stock.frames; frames_line = stock.frames_line; loan = loan; loan_line = line; warn = stock.warn; critical = stock.critical }
+
+-- the stock with these marks
+abbrev pub with_levels : Stock → ℕ → ℕ → Stock
+with_levels stock warn critical =
+    record { frames = stock.frames; frames_line = stock.frames_line; loan = stock.loan; loan_line = stock.loan_line; warn = warn; critical = critical }
+
+-- frames N: so many ordinary frames, of which a quarter and an eighth are the marks
+abbrev pub frames_line : ℕ → Declared → List (List ℕ) → Result Declared Why
+frames_line line declared words = do
+  frames ← number_between 1 16384 (word_at words 1)
+  Ok (record {
+    last = last.Frames;
+    stock = record { frames = frames; frames_line = line; loan = 0; loan_line = 0; warn = frames / 4; critical = frames / 8 };
+    objects = declared.objects;
+    actors = declared.actors;
+  })
+
+-- loan N: so many loaned frames
+abbrev pub loan_line : ℕ → Declared → List (List ℕ) → Result Declared Why
+loan_line line declared words = do
+  loan ← number_between 1 4096 (word_at words 1)
+  Ok (record { last = last.Loan; stock = with_loan declared.stock line loan; objects = declared.objects; actors = declared.actors })
+
+-- levels W C: the marks, of which none is above the one before it, and none above the frames
+abbrev pub levels_line : Declared → List (List ℕ) → Result Declared Why
+levels_line declared words = do
+  warn ← number_between 0 declared.stock.frames (word_at words 1)
+  critical ← number_between 0 warn (word_at words 2)
+  Ok (record { last = last.Levels; stock = with_levels declared.stock warn critical; objects = declared.objects; actors = declared.actors })
+
+-- a name that neither an object nor an actor has
+abbrev pub new_name : Declared → List ℕ → Result (List ℕ) Why
 new_name declared word = do
-  name ← check (is_name word)
-  new ← check (not (bytes_eq declared.object word) && not (is_some (actor_from word 0 declared.actors)))
-  Some word
+  name ← check why.Name (is_name word)
+  new ← check why.Name (not (is_some (object_named word declared.objects)) && not (is_some (actor_named word declared.actors)))
+  Ok word
 
--- the word is the object's name
-abbrev pub object_in : Declared → List ℕ → Option Bool
-object_in declared word = check (bytes_eq declared.object word)
+-- the greatest number of pages, - where the size is fixed
+abbrev pub limit_in : ℕ → List ℕ → Result (Option ℕ) Why
+limit_in pages word = cond (bytes_eq word (codes "-")) (Ok None) (number_between pages 65536 word >>= λ limit. Ok (Some limit))
 
--- one actor more, of 64 at most. It acts on the object.
-abbrev pub with_actor : Declared → List ℕ → Kind → Option Declared
-with_actor declared name kind = do
-  few ← check (nat_lt (length declared.actors) 64)
-  Some (record { object = declared.object; actors = declared.actors ++ (record { name = name; kind = kind; objects = 0 ∷ [] }) ∷ [] })
+-- the name of an image that no object has yet, - where there is none
+abbrev pub image_in : Declared → List ℕ → Result (Option (List ℕ)) Why
+image_in declared word =
+    cond (bytes_eq word (codes "-")) (Ok None)
+    (check why.Name (is_name word && not (image_named word declared.objects)) >>= λ new. Ok (Some word))
 
--- a line of an actor that names its object
-abbrev pub bound_line : Kind → Declared → List (List ℕ) → Option Declared
-bound_line kind declared words = do
+abbrev pub with_object : Declared → ObjectLine → Declared
+with_object declared object = record { last = last.Object; stock = declared.stock; objects = declared.objects ++ object ∷ []; actors = declared.actors }
+
+-- object NAME PAGES LIMIT TRAP IMAGE: one object more, of 16. Its users and pagers are counted when all are declared
+abbrev pub object_line : ℕ → Declared → List (List ℕ) → Result Declared Why
+object_line line declared words = do
   name ← new_name declared (word_at words 1)
-  object ← object_in declared (word_at words 2)
-  with_actor declared name kind
+  pages ← number_between 0 65536 (word_at words 2)
+  limit ← limit_in pages (word_at words 3)
+  image ← image_in declared (word_at words 5)
+  few ← check why.Limit (nat_lt (length declared.objects) 16)
+  Ok (with_object declared (record {
+    number = line;
+    name = name;
+    birth = record { pages = pages; limit = limit; trap = word_is words 4 (codes "trap"); users = 0; pagers = 0; image = is_some image };
+    image = image;
+  }))
 
--- a line of an actor that acts on all objects
-abbrev pub evictor_line : Declared → List (List ℕ) → Option Declared
-evictor_line declared words = do
+-- the object that a word names
+abbrev pub object_in : Declared → List ℕ → Result ℕ Why
+object_in declared word = or_why why.Name (object_named word declared.objects)
+
+-- one object more that an actor acts on: none is named twice
+abbrev pub bind_step : Declared → List ℕ → List ℕ → Result (List ℕ) Why
+bind_step declared bound word = do
+  object ← object_in declared word
+  new ← check why.Name (not (is_among bound object))
+  Ok (bound ++ object ∷ [])
+
+-- a pager serves an object without image, a worker one with image
+abbrev pub may_serve : Kind → List ObjectLine → ℕ → Bool
+may_serve Pager objects object = not (has_image objects object)
+may_serve Worker objects object = has_image objects object
+may_serve _ objects object = true
+
+-- one actor more, of 64
+abbrev pub with_actor : Declared → ActorLine → Result Declared Why
+with_actor declared actor = do
+  few ← check why.Limit (nat_lt (length declared.actors) 64)
+  Ok (record { last = last.Actor; stock = declared.stock; objects = declared.objects; actors = declared.actors ++ actor ∷ [] })
+
+-- user, pager or worker NAME OBJECT ..
+abbrev pub bound_line : Kind → ℕ → Declared → List (List ℕ) → Result Declared Why
+bound_line kind line declared words = do
   name ← new_name declared (word_at words 1)
-  with_actor declared name Evictor
+  objects ← each (bind_step declared) [] (drop 2 words)
+  role ← check why.Role (list_all (may_serve kind declared.objects) objects)
+  with_actor declared (record { number = line; name = name; kind = kind; objects = objects })
+
+-- the first n numbers
+abbrev pub first_numbers : ℕ → List ℕ
+first_numbers zero = []
+first_numbers (suc n) = first_numbers n ++ n ∷ []
+
+-- evictor NAME: acts on all objects
+abbrev pub evictor_line : ℕ → Declared → List (List ℕ) → Result Declared Why
+evictor_line line declared words = do
+  name ← new_name declared (word_at words 1)
+  with_actor declared (record { number = line; name = name; kind = Evictor; objects = first_numbers (length declared.objects) })
+
+-- the line begins with this word, and names at least one object
+abbrev pub binds : List (List ℕ) → List ℕ → Bool
+binds words kind = word_is words 0 kind && nat_le 3 (length words)
 
 -- a line that declares an actor
-abbrev pub actor_line : Declared → List (List ℕ) → Option Declared
-actor_line declared words =
-    cond (verb_is words 0 (codes "user") 3) (bound_line User declared words)
-    (cond (verb_is words 0 (codes "pager") 3) (bound_line Pager declared words)
-    (cond (verb_is words 0 (codes "evictor") 2) (evictor_line declared words) None))
+abbrev pub actor_line : ℕ → Declared → List (List ℕ) → Result Declared Why
+actor_line line declared words =
+    cond (binds words (codes "user")) (bound_line User line declared words)
+    (cond (binds words (codes "pager")) (bound_line Pager line declared words)
+    (cond (verb_is words 0 (codes "worker") 3) (bound_line Worker line declared words)
+    (cond (verb_is words 0 (codes "evictor") 2) (evictor_line line declared words) (Err why.Word))))
 
--- the object has its user and its pager
+abbrev pub is_trap_word : List ℕ → Bool
+is_trap_word word = bytes_eq word (codes "trap") || bytes_eq word (codes "free")
+
+-- a line that declares frames or an object
+abbrev pub declaration_line : ℕ → Declared → List (List ℕ) → Result Declared Why
+declaration_line line declared words =
+    cond (verb_is words 0 (codes "frames") 2 && is_first declared.last) (frames_line line declared words)
+    (cond (verb_is words 0 (codes "loan") 2 && may_loan declared.last) (loan_line line declared words)
+    (cond (verb_is words 0 (codes "levels") 3 && may_level declared.last) (levels_line declared words)
+    (cond (verb_is words 0 (codes "object") 6 && is_trap_word (word_at words 4) && may_object declared.last) (object_line line declared words)
+    (cond (is_first declared.last) (Err why.Word) (actor_line line declared words)))))
+
+-- the declarations, with the counts of each object's users and pagers
+abbrev pub with_all_counted : Declared → Declared
+with_all_counted declared = record { last = declared.last; stock = declared.stock; objects = counted declared.actors declared.objects; actors = declared.actors }
+
+-- all is there that a script needs, once users and pagers are counted: frames, an object, and a user and a pager of each
 abbrev pub is_whole : Declared → Bool
-is_whole declared = nat_lt 0 (users_of declared.actors) && nat_lt 0 (pagers_of declared.actors)
+is_whole declared = not (is_first declared.last) && nat_lt 0 (length declared.objects) && list_all is_served declared.objects

@@ -1,10 +1,8 @@
-pub mod Steps
-pub mod Words
-pub mod Numbers
-pub mod Runs
-pub mod Actors
+pub mod Objects
 pub mod Declarations
+pub mod Verbs
 pub mod Actions
-pub mod Built
 pub mod Reading
+pub mod Sound
+pub mod Stages
 pub mod Laws

@@ -1,81 +1,83 @@
--- What script a text spells.
-use Rattle.std.specs.Prelude.{ℕ, ◌+◌, ◌/◌, ◌==◌, false, cond, List, [], ◌∷◌, Option, Some, None, codes, length, nat_le}
-use Rattle.up_journal.specs.declared.entry.Birth.{Birth}
-use Rattle.up_script.specs.Steps.{◌>>=◌, check}
-use Rattle.up_script.specs.Words.{split, verb_is, words_in}
-use Rattle.up_script.specs.Actors.{users_of, pagers_of}
-use Rattle.up_script.specs.Declarations.{header_line, frames_line, object_line, actor_line, is_whole}
+-- What script a text spells, or its first fault.
+use Rattle.std.specs.Prelude.{ℕ, ◌==◌, Bool, true, cond, List, [], ◌∷◌, Result, Ok, Err, codes, length, nat_le}
+use Rattle.std.specs.Str.{bytes_eq}
+use Rattle.up_words.specs.Steps.{◌>>=◌, check, lines_from}
+use Rattle.up_words.specs.Words.{split, verb_is, words_in}
+use Rattle.up_words.specs.declared.fault.Fault.{Fault}
+use Rattle.up_words.specs.declared.fault.Why.{Why}
+use Rattle.up_words.specs.declared.fault.Why.TheVariants as why
+use Rattle.up_script.specs.Declarations.{nothing_declared, declaration_line, is_whole, with_all_counted}
 use Rattle.up_script.specs.Actions.{act}
-use Rattle.up_script.specs.declared.actions.Played.{Played}
 use Rattle.up_script.specs.declared.declarations.Declared.{Declared}
+use Rattle.up_script.specs.declared.played.Played.{Played}
 use Rattle.up_script.specs.declared.reading.Stage.{Stage}
-use Rattle.up_script.specs.declared.reading.Stage.TheVariants as stages
+use Rattle.up_script.specs.declared.reading.Stage.TheVariants.{Header, Declaring, Acting}
 use Rattle.up_script.specs.declared.script.Script.{Script}
 
--- no line of an actor yet, and room for the bytes that all lines together may read and supply
+-- no line of an actor yet, and room for the bytes that all lines together may read, write and supply
 abbrev pub nothing_played : Played
-nothing_played = record { lines = []; room = 67108864 }
+nothing_played = record { lines = []; room = 67108864; left = [] }
 
--- before the line steps each line declares an actor. At that line the object has its user and its pager.
-abbrev pub declaration_line : Declared → List (List ℕ) → Option Stage
-declaration_line declared words =
+-- a line before the actions: the line steps ends the declarations
+abbrev pub declaring : ℕ → Declared → List (List ℕ) → Result Stage Why
+declaring number declared words =
     cond (verb_is words 0 (codes "steps") 1)
-    (check (is_whole declared) >>= λ whole. Some (stages.Acting declared nothing_played))
-    (actor_line declared words >>= λ more. Some (stages.Declaring more))
+    (check why.Missing (is_whole (with_all_counted declared)) >>= λ whole. Ok (Acting (with_all_counted declared) nothing_played))
+    (declaration_line number declared words >>= λ more. Ok (Declaring more))
 
 -- a line by its words and its place
-abbrev pub stage_step : ℕ → Stage → List (List ℕ) → Option Stage
-stage_step number stages.Header words = header_line words
-stage_step number stages.Frames words = frames_line words
-stage_step number stages.Object words = object_line words
-stage_step number (stages.Declaring declared) words = declaration_line declared words
-stage_step number (stages.Acting declared played) words =
-    act declared number played words >>= λ more. Some (stages.Acting declared more)
+abbrev pub stage_step : ℕ → Stage → List (List ℕ) → Result Stage Why
+stage_step number Header words = Err why.Header
+stage_step number (Declaring declared) words = declaring number declared words
+stage_step number (Acting declared played) words = act declared number played words >>= λ more. Ok (Acting declared more)
 
--- a line with its number: not too long, not too many, its words, and what they say
-abbrev pub line_step : ℕ → Stage → List ℕ → Option Stage
+-- empty lines and those that begin with # are skipped
+abbrev pub is_skipped : List ℕ → Bool
+is_skipped [] = true
+is_skipped (byte ∷ bytes) = byte == 35
+
+-- the first line is fixed; the others are skipped, or made of words
+abbrev pub content : ℕ → Stage → List ℕ → Result Stage Why
+content number Header line = cond (bytes_eq line (codes "pagerd-script 1")) (Ok (Declaring nothing_declared)) (Err why.Header)
+content number stage line = cond (is_skipped line) (Ok stage) (words_in line >>= λ words. stage_step number stage words)
+
+-- a line with its number: not too long, not too many, and what it says
+abbrev pub line_step : ℕ → Stage → List ℕ → Result Stage Why
 line_step number stage line = do
-  short ← check (nat_le (length line) 4096)
-  few ← check (nat_le number 65536)
-  words ← words_in line
-  stage_step number stage words
+  short ← check why.Long (nat_le (length line) 4096)
+  few ← check why.Limit (nat_le number 65536)
+  content number stage line
 
--- what stands behind the last newline: nothing
-abbrev pub last_step : Stage → List ℕ → Option Stage
-last_step stage rest = do
-  ended ← check (length rest == 0)
-  Some stage
-
--- all lines from this number on, as newlines part them: each is ended by one
-unfoldable pub lines_from : ℕ → Stage → List (List ℕ) → Option Stage
-lines_from number stage [] = None
-lines_from number stage (rest ∷ []) = last_step stage rest
-lines_from number stage (line ∷ next ∷ lines) = line_step number stage line >>= λ more. lines_from (number + 1) more (next ∷ lines)
-
--- the object that was declared, with its users and pagers
-abbrev pub birth_in : Declared → Birth
-birth_in declared = record { pages = 1; limit = None; trap = false; users = users_of declared.actors; pagers = pagers_of declared.actors; image = false }
-
--- eight frames, of which a quarter and an eighth are the marks, the object, its actors and their lines
+-- the frames, the objects, their actors and the lines
 abbrev pub script_in : Declared → Played → Script
 script_in declared played = record {
-  frames = 8;
-  loan = 0;
-  warn = 8 / 4;
-  critical = 8 / 8;
-  objects = (record { name = declared.object; birth = birth_in declared; image = None }) ∷ [];
+  frames = declared.stock.frames;
+  frames_line = declared.stock.frames_line;
+  loan = declared.stock.loan;
+  loan_line = declared.stock.loan_line;
+  warn = declared.stock.warn;
+  critical = declared.stock.critical;
+  objects = declared.objects;
   actors = declared.actors;
   lines = played.lines;
 }
 
 -- the text ends after the line steps
-abbrev pub ended : Stage → Option Script
-ended (stages.Acting declared played) = Some (script_in declared played)
-ended _ = None
+abbrev pub ended : Stage → Result Script Why
+ended Header = Err why.Header
+ended (Declaring declared) = Err why.Missing
+ended (Acting declared played) = Ok (script_in declared played)
 
--- the script that a text spells, none where the text isn't of the form
-abbrev pub script_of : List ℕ → Option Script
-script_of bytes = do
-  short ← check (nat_le (length bytes) 4194304)
-  stage ← lines_from 1 stages.Header (split 10 bytes)
-  ended stage
+-- what stands behind the last newline: nothing. Else that line has none
+abbrev pub last_step : ℕ → Stage → List ℕ → Result Script Why
+last_step number stage [] = ended stage
+last_step number stage (byte ∷ bytes) = do
+  short ← check why.Long (nat_le (length (byte ∷ bytes)) 4096)
+  few ← check why.Limit (nat_le number 65536)
+  Err why.Cut
+
+-- the script that a text spells, or the first fault
+abbrev pub script_of : List ℕ → Result Script Fault
+script_of bytes =
+    cond (nat_le (length bytes) 4194304) (lines_from line_step last_step 1 Header (split 10 bytes))
+    (Err (record { line = 0; why = why.Long }))

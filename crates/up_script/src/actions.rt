@@ -1,151 +1,71 @@
-ghost use Rattle.std.specs.Prelude.{◌≡◌, true, length, nat_lt, IfOk};
-ghost use Rattle.up_script.specs.Steps.{Gives};
-ghost use Rattle.up_script.specs.Actions.{actor_in, go_line, read_line, packet_line, supply_line, deed_of, act};
-ghost use Rattle.up_script.specs.Built.{is_built_deed, are_built};
+ghost use Rattle.std.specs.Prelude.{◌≡◌, ◌<◌, ◌≤◌, true, length, Ok, IfOk};
+ghost use Rattle.up_words.specs.Steps.{Gives, or_why};
+ghost use Rattle.up_words.specs.declared.fault.Why.TheVariants.{Word};
+ghost use Rattle.up_script.specs.Verbs.{verb_of};
+ghost use Rattle.up_script.specs.Actions.{actor_in, has_what_it_needs, may_act, bytes_of, with_line, act};
+ghost use Rattle.up_script.specs.Sound.{are_sound_lines};
 
-use crate::acting::Acting;
-use crate::declarations::{Declared, read_bound};
-use crate::fault::ReadFault;
-use crate::numbers::{read_between, read_number};
-use crate::runs::read_bytes;
-use crate::script::{Action, Line, Lines};
-use crate::words::Words;
+use crate::declarations::Declared;
+use crate::fields::read_by_verb;
+use crate::played::{Played, note_leave};
+use crate::script::{Action, Line};
+use crate::verbs::{Verb, read_verb};
 use std::alloc::Global;
-use up_journal::{Brought, Call};
-use up_num::PageRange;
+use up_words::{Stop, Why, Words};
 
-/// The greatest offset in an object of 2^31 pages.
-const OFFSETS: u64 = 8_796_093_022_208;
-/// The greatest page.
-const PAGES: u64 = 2_147_483_648;
-
-/// The lines of actors so far, and how many bytes further lines may read and supply.
-#[derive(Debug, Drop)]
-pub struct Played {
-    pub lines: Lines,
-    pub room: u64,
+fn read_known_verb(words: &Words<'_>) -> Result<Verb, Stop>
+    ensures { Gives (λ verb. verb) result (or_why Word (verb_of words.now)) }
+{
+    match read_verb(words) {
+        None => Err(Stop::Found(Why::Word)),
+        Some(verb) => Ok(verb),
+    }
 }
 
-/// Who does what in a line, and how many bytes that reads or supplies.
-#[derive(Debug, Drop)]
-pub struct Deed {
-    pub actor: u32,
-    pub action: Action,
-    pub bytes: u32,
-}
-
-fn read_acting(declared: &Declared, word: &[u8]) -> Result<Acting, ReadFault>
-    ensures value { Gives (λ acting. acting) result (actor_in declared.now word.now) }
-    ensures within { IfOk result (λ acting. nat_lt acting.actor (length declared.now.actors) ≡ true) }
+fn read_actor(declared: &Declared, word: &[u8]) -> Result<u32, Stop>
+    ensures value { Gives (λ actor. actor) result (actor_in declared.now word.now) }
+    ensures within { IfOk result (λ actor. actor < length declared.now.actors) }
 {
     match declared.actors.find(word) {
-        None => Err(ReadFault::Unbuilt),
-        Some(acting) => Ok(acting),
+        None => Err(Stop::Found(Why::Name)),
+        Some(actor) => Ok(actor),
     }
 }
 
-fn read_go(declared: &Declared, words: &Words<'_>) -> Result<Deed, ReadFault>
-    ensures value { Gives (λ deed. deed) result (go_line declared.now words.now) }
-    ensures built { IfOk result (λ deed. is_built_deed (length declared.now.actors) deed ≡ true) }
+fn has_needs(declared: &Declared, action: &Action) -> bool
+    ensures { result ≡ has_what_it_needs declared.now action.now }
 {
-    let acting = read_acting(declared, words.at(0))?;
-    Ok(Deed {
-        actor: acting.actor,
-        action: Action::Go,
-        bytes: 0,
-    })
+    match action {
+        Action::Sync { object } => declared.objects.has_image(*object),
+        _ => true,
+    }
 }
 
-fn read_read(declared: &Declared, words: &Words<'_>) -> Result<Deed, ReadFault>
-    ensures value { Gives (λ deed. deed) result (read_line declared.now words.now) }
-    ensures built { IfOk result (λ deed. is_built_deed (length declared.now.actors) deed ≡ true) }
+fn is_role(declared: &Declared, actor: u32, verb: Verb, action: &Action) -> bool
+    ensures { result ≡ may_act declared.now actor verb action.now }
 {
-    let acting = read_acting(declared, words.at(0))?;
-    read_bound(declared, words.at(2))?;
-    let off = read_number(OFFSETS, words.at(3))?;
-    let len = read_between(1, 65536, words.at(4))?;
-    if !acting.kind.is_user() {
-        return Err(ReadFault::Unbuilt);
-    }
-    if 4096 < off % 4096 + len {
-        return Err(ReadFault::Unbuilt);
-    }
-    let len = len as u32;
-    Ok(Deed {
-        actor: acting.actor,
-        action: Action::Read {
-            object: 0,
-            off,
-            len,
-        },
-        bytes: len,
-    })
+    verb.is_said_by(declared.actors.kind_of(actor))
+        && declared.actors.is_bound(actor, action.object())
+        && has_needs(declared, action)
 }
 
-fn read_packet(declared: &Declared, words: &Words<'_>) -> Result<Deed, ReadFault>
-    ensures value { Gives (λ deed. deed) result (packet_line declared.now words.now) }
-    ensures built { IfOk result (λ deed. is_built_deed (length declared.now.actors) deed ≡ true) }
+fn add_line(played: Played, number: u32, actor: u32, action: Action) -> Result<Played, Stop>
+    requires { bytes_of action ≤ played.room }
+    ensures { Gives (λ more. more) result (Ok (with_line played number actor action)) }
 {
-    let acting = read_acting(declared, words.at(0))?;
-    read_bound(declared, words.at(2))?;
-    if !acting.kind.is_pager() {
-        return Err(ReadFault::Unbuilt);
-    }
-    Ok(Deed {
-        actor: acting.actor,
-        action: Action::Act {
-            object: 0,
-            call: Call::Packet,
-        },
-        bytes: 0,
-    })
-}
-
-fn read_supply(alloc: Global, declared: &Declared, words: &Words<'_>) -> Result<Deed, ReadFault>
-    ensures value { Gives (λ deed. deed) result (supply_line declared.now words.now) }
-    ensures built { IfOk result (λ deed. is_built_deed (length declared.now.actors) deed ≡ true) }
-{
-    let acting = read_acting(declared, words.at(0))?;
-    read_bound(declared, words.at(2))?;
-    let first = read_number(PAGES, words.at(3))?;
-    read_between(1, 1, words.at(4))?;
-    let bytes = read_bytes(alloc, 4096, words.at(5))?;
-    if !acting.kind.is_pager() {
-        return Err(ReadFault::Unbuilt);
-    }
-    let range = PageRange {
-        first: first as u32,
-        count: 1,
-    };
-    Ok(Deed {
-        actor: acting.actor,
-        action: Action::Act {
-            object: 0,
-            call: Call::Supply {
-                range,
-                bytes,
-                brought: Brought::Nothing,
-            },
-        },
-        bytes: 4096,
-    })
-}
-
-fn read_deed(alloc: Global, declared: &Declared, words: &Words<'_>) -> Result<Deed, ReadFault>
-    ensures value { Gives (λ deed. deed) result (deed_of declared.now words.now) }
-    ensures built { IfOk result (λ deed. is_built_deed (length declared.now.actors) deed ≡ true) }
-{
-    if words.has(1, b"go", 2) {
-        read_go(declared, words)
-    } else if words.has(1, b"read", 5) {
-        read_read(declared, words)
-    } else if words.has(1, b"packet", 3) {
-        read_packet(declared, words)
-    } else if words.has(1, b"supply", 6) {
-        read_supply(alloc, declared, words)
-    } else {
-        Err(ReadFault::Unbuilt)
-    }
+    let room = played.room - action.bytes();
+    let Played {
+        mut lines,
+        room: _,
+        left,
+    } = played;
+    let left = note_leave(left, actor, &action)?;
+    lines.push(Line {
+        number,
+        actor,
+        action,
+    })?;
+    Ok(Played { lines, room, left })
 }
 
 /// A line of an actor, with its number in the text.
@@ -155,27 +75,22 @@ pub fn read_action(
     number: u32,
     played: Played,
     words: &Words<'_>,
-) -> Result<Played, ReadFault>
+) -> Result<Played, Stop>
     ensures value { Gives (λ more. more) result (act declared.now number played words.now) }
-    ensures built { are_built (length declared.now.actors) played.lines ≡ true → IfOk result (λ more. are_built (length declared.now.actors) more.lines ≡ true) }
+    ensures sound { are_sound_lines (length declared.now.objects) (length declared.now.actors) played.lines ≡ true
+        → IfOk result (λ more. are_sound_lines (length declared.now.objects) (length declared.now.actors) more.lines ≡ true) }
 {
-    let deed = read_deed(alloc, declared, words)?;
-    if played.room < u64::from(deed.bytes) {
-        return Err(ReadFault::Unbuilt);
+    let verb = read_known_verb(words)?;
+    let actor = read_actor(declared, words.at(0))?;
+    let action = read_by_verb(alloc, declared, declared.actors.kind_of(actor), verb, words)?;
+    if !is_role(declared, actor, verb, &action) {
+        return Err(Stop::Found(Why::Role));
     }
-    let Deed {
-        actor,
-        action,
-        bytes,
-    } = deed;
-    let Played { mut lines, room } = played;
-    lines.push(Line {
-        number,
-        actor,
-        action,
-    })?;
-    Ok(Played {
-        lines,
-        room: room - u64::from(bytes),
-    })
+    if played.has_left(actor, action.object()) {
+        return Err(Stop::Found(Why::Left));
+    }
+    if played.room < action.bytes() {
+        return Err(Stop::Found(Why::Limit));
+    }
+    add_line(played, number, actor, action)
 }

@@ -1,14 +1,14 @@
-//! What the definitions of reading say, apart from how a text is read.
+//! What the definition of a script's text says, apart from how a text is read.
 
-ghost use Rattle.up_script.specs.Laws.{ReadsDecimal, ReadsOnlyDecimal, JoinsWords};
+ghost use Rattle.up_script.specs.Laws.{OneScript, NamesFirst, NamesLength};
 
-/// A number is read from its decimal text, and from no other.
-pub fn numbers_are_decimal()
-    ensures back { ReadsDecimal }
-    ensures only { ReadsOnlyDecimal }
+/// A text spells at most one script.
+pub fn a_text_spells_one_script()
+    ensures { OneScript }
 {}
 
-/// The words of a line give the line back.
-pub fn words_join_to_their_line()
-    ensures { JoinsWords }
+/// The fault of a text is that of its first faulty line.
+pub fn the_first_fault_is_named()
+    ensures first { NamesFirst }
+    ensures length { NamesLength }
 {}

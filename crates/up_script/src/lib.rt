@@ -1,24 +1,23 @@
-//! The script that a program does: its types, and the reader of its text. Today it reads scripts of one object
-//! with one page, whose users read bytes and whose pagers take packets and supply the page.
+//! The script that a program does: its types, and the reader of its text.
 #![tactic(auto)]
 
-mod acting;
 mod actions;
+mod actors;
 mod declarations;
-mod fault;
+mod fields;
 mod laws;
-mod numbers;
+mod objects;
+mod played;
 mod reading;
-mod runs;
 mod script;
-mod words;
+mod verbs;
 
-pub use fault::ReadFault;
-pub use laws::{numbers_are_decimal, words_join_to_their_line};
+pub use laws::{a_text_spells_one_script, the_first_fault_is_named};
 pub use reading::read_script;
 pub use script::{
     Action, ActorLine, ActorLines, Kind, Line, Lines, Numbers, ObjectLine, ObjectLines, Script,
 };
+pub use up_words::{ReadFault, Why};
 
 #[cfg(test)]
 mod tests;

@@ -1,17 +1,16 @@
-ghost use Rattle.std.specs.Prelude.{◌≡◌, ◌≤◌, true, Some, None, IfOk, OnOk, MatchResult};
-ghost use Rattle.up_script.specs.Steps.{Gives};
-ghost use Rattle.up_script.specs.Words.{split};
-ghost use Rattle.up_script.specs.Reading.{declaration_line, birth_in, stage_step, line_step, last_step, lines_from, ended, script_of};
-ghost use Rattle.up_script.specs.Built.{is_built, is_sound};
+ghost use Rattle.std.specs.Prelude.{◌≡◌, ◌≤◌, true, IfOk, OnOk};
+ghost use Rattle.up_words.specs.Steps.{Gives, GivesText, lines_from};
+ghost use Rattle.up_words.specs.Words.{split};
+ghost use Rattle.up_script.specs.Reading.{declaring, stage_step, is_skipped, content, line_step, script_in, ended, last_step, script_of};
+ghost use Rattle.up_script.specs.Sound.{is_sound};
+ghost use Rattle.up_script.specs.Stages.{is_sound_stage};
 
-use crate::actions::{Played, read_action};
-use crate::declarations::{Declared, are_whole, read_actor, read_frames, read_header, read_object};
-use crate::fault::ReadFault;
-use crate::script::{ObjectLine, Script};
-use crate::words::{Words, front, read_words};
+use crate::actions::read_action;
+use crate::declarations::{Declared, read_declaration};
+use crate::played::Played;
+use crate::script::Script;
 use std::alloc::Global;
-use up_journal::Birth;
-use up_num::Items;
+use up_words::{ReadFault, Stop, Why, Words, front, read_words};
 
 /// The greatest length of a text.
 const TEXT: usize = 4_194_304;
@@ -19,59 +18,42 @@ const TEXT: usize = 4_194_304;
 const LINE: usize = 4096;
 /// The greatest number of lines.
 const LINES: u32 = 65_536;
-/// The greatest number of bytes that all lines together read and supply.
-const BYTES: u64 = 67_108_864;
-/// The number of frames.
-const FRAMES: u32 = 8;
 
 /// What the next line has to be, and what the lines before it said.
 #[derive(Debug, Drop)]
 pub enum Stage {
     Header,
-    Frames,
-    Object,
     Declaring(Declared),
     Acting(Declared, Played),
 }
 
-fn read_declaration(
-    alloc: Global,
-    declared: Declared,
-    words: &Words<'_>,
-) -> Result<Stage, ReadFault>
-    ensures value { Gives (λ next. next) result (declaration_line declared words.now) }
-    ensures sound { IfOk result (λ next. is_sound next ≡ true) }
-{
-    if !words.has(0, b"steps", 1) {
-        let declared = read_actor(alloc, declared, words)?;
-        return Ok(Stage::Declaring(declared));
-    }
-    if !are_whole(&declared) {
-        return Err(ReadFault::Unbuilt);
-    }
-    Ok(Stage::Acting(
-        declared,
-        Played {
-            lines: Items::new(alloc),
-            room: BYTES,
-        },
-    ))
-}
-
-fn read_by_stage(
+fn read_declaring(
     alloc: Global,
     number: u32,
-    stage: Stage,
+    declared: Declared,
     words: &Words<'_>,
-) -> Result<Stage, ReadFault>
+) -> Result<Stage, Stop>
+    ensures value { Gives (λ next. next) result (declaring number declared words.now) }
+    ensures sound { IfOk result (λ next. is_sound_stage next ≡ true) }
+{
+    if !words.has(0, b"steps", 1) {
+        let declared = read_declaration(alloc, number, declared, words)?;
+        return Ok(Stage::Declaring(declared));
+    }
+    let declared = declared.counted(alloc)?;
+    if !declared.is_whole() {
+        return Err(Stop::Found(Why::Missing));
+    }
+    Ok(Stage::Acting(declared, Played::new(alloc)))
+}
+
+fn read_by_stage(alloc: Global, number: u32, stage: Stage, words: &Words<'_>) -> Result<Stage, Stop>
     ensures value { Gives (λ next. next) result (stage_step number stage words.now) }
-    ensures sound { is_sound stage ≡ true → IfOk result (λ next. is_sound next ≡ true) }
+    ensures sound { is_sound_stage stage ≡ true → IfOk result (λ next. is_sound_stage next ≡ true) }
 {
     match stage {
-        Stage::Header => read_header(words),
-        Stage::Frames => read_frames(words),
-        Stage::Object => read_object(alloc, words),
-        Stage::Declaring(declared) => read_declaration(alloc, declared, words),
+        Stage::Header => Err(Stop::Found(Why::Header)),
+        Stage::Declaring(declared) => read_declaring(alloc, number, declared, words),
         Stage::Acting(declared, played) => {
             let played = read_action(alloc, &declared, number, played, words)?;
             Ok(Stage::Acting(declared, played))
@@ -79,31 +61,95 @@ fn read_by_stage(
     }
 }
 
-fn read_line(alloc: Global, number: u32, stage: Stage, line: &[u8]) -> Result<Stage, ReadFault>
-    ensures value { Gives (λ next. next) result (line_step number stage line.now) }
-    ensures sound { is_sound stage ≡ true → IfOk result (λ next. is_sound next ≡ true) }
-    ensures few { OnOk result (number ≤ LINES) }
+fn is_passed_over(line: &[u8]) -> bool
+    ensures { result ≡ is_skipped line.now }
 {
-    if LINE < line.len() || LINES < number {
-        return Err(ReadFault::Unbuilt);
+    match line {
+        [] => true,
+        [first, ..] => *first == b'#',
+    }
+}
+
+fn read_content(alloc: Global, number: u32, stage: Stage, line: &[u8]) -> Result<Stage, Stop>
+    ensures value { Gives (λ next. next) result (content number stage line.now) }
+    ensures sound { is_sound_stage stage ≡ true → IfOk result (λ next. is_sound_stage next ≡ true) }
+{
+    if let Stage::Header = stage {
+        if line != b"pagerd-script 1".as_slice() {
+            return Err(Stop::Found(Why::Header));
+        }
+        return Ok(Stage::Declaring(Declared::new(alloc)));
+    }
+    if is_passed_over(line) {
+        return Ok(stage);
     }
     let words = read_words(alloc, line)?;
     read_by_stage(alloc, number, stage, &words)
 }
 
-fn end(stage: Stage, rest: &[u8]) -> Result<Stage, ReadFault>
-    ensures value { Gives (λ same. same) result (last_step stage rest.now) }
-    ensures same { IfOk result (λ same. same ≡ stage) }
+fn read_line(alloc: Global, number: u32, stage: Stage, line: &[u8]) -> Result<Stage, Stop>
+    ensures value { Gives (λ next. next) result (line_step number stage line.now) }
+    ensures sound { is_sound_stage stage ≡ true → IfOk result (λ next. is_sound_stage next ≡ true) }
+    ensures few { OnOk result (number ≤ LINES) }
 {
-    if !rest.is_empty() {
-        return Err(ReadFault::Unbuilt);
+    if LINE < line.len() {
+        return Err(Stop::Found(Why::Long));
     }
-    Ok(stage)
+    if LINES < number {
+        return Err(Stop::Found(Why::Limit));
+    }
+    read_content(alloc, number, stage, line)
 }
 
-fn read_lines(alloc: Global, text: &[u8]) -> Result<Stage, ReadFault>
-    ensures value { Gives (λ stage. stage) result (lines_from 1 Stage.Header (split 10 text.now)) }
-    ensures sound { IfOk result (λ stage. is_sound stage ≡ true) }
+fn finish(stage: Stage) -> Result<Script, Stop>
+    ensures value { Gives (λ script. script) result (ended stage) }
+    ensures sound { is_sound_stage stage ≡ true → IfOk result (λ script. is_sound script ≡ true) }
+{
+    match stage {
+        Stage::Header => Err(Stop::Found(Why::Header)),
+        Stage::Declaring(_) => Err(Stop::Found(Why::Missing)),
+        Stage::Acting(declared, played) => {
+            let Declared {
+                last: _,
+                stock,
+                objects,
+                actors,
+            } = declared;
+            Ok(Script {
+                frames: stock.frames,
+                frames_line: stock.frames_line,
+                loan: stock.loan,
+                loan_line: stock.loan_line,
+                warn: stock.warn,
+                critical: stock.critical,
+                objects: objects.into_lines(),
+                actors: actors.into_lines(),
+                lines: played.lines,
+            })
+        }
+    }
+}
+
+/// What stands behind the last newline.
+fn end(number: u32, stage: Stage, rest: &[u8]) -> Result<Script, Stop>
+    ensures value { Gives (λ script. script) result (last_step number stage rest.now) }
+    ensures sound { is_sound_stage stage ≡ true → IfOk result (λ script. is_sound script ≡ true) }
+{
+    if rest.is_empty() {
+        return finish(stage);
+    }
+    if LINE < rest.len() {
+        return Err(Stop::Found(Why::Long));
+    }
+    if LINES < number {
+        return Err(Stop::Found(Why::Limit));
+    }
+    Err(Stop::Found(Why::Cut))
+}
+
+fn read_lines(alloc: Global, text: &[u8]) -> Result<Script, ReadFault>
+    ensures value { GivesText (λ script. script) result (lines_from line_step last_step 1 Stage.Header (split 10 text.now)) }
+    ensures sound { IfOk result (λ script. is_sound script ≡ true) }
 {
     let mut stage = Stage::Header;
     let mut number: u32 = 1;
@@ -111,9 +157,17 @@ fn read_lines(alloc: Global, text: &[u8]) -> Result<Stage, ReadFault>
     loop {
         let (line, after) = front(rest);
         match after {
-            None => return end(stage, line),
+            None => {
+                return match end(number, stage, line) {
+                    Ok(script) => Ok(script),
+                    Err(stop) => Err(stop.at(number)),
+                };
+            }
             Some(after) => {
-                stage = read_line(alloc, number, stage, line)?;
+                stage = match read_line(alloc, number, stage, line) {
+                    Ok(next) => next,
+                    Err(stop) => return Err(stop.at(number)),
+                };
                 number += 1;
                 rest = after;
             }
@@ -121,57 +175,20 @@ fn read_lines(alloc: Global, text: &[u8]) -> Result<Stage, ReadFault>
     }
 }
 
-fn birth(declared: &Declared) -> Birth
-    ensures { result ≡ birth_in declared.now }
-{
-    Birth {
-        pages: 1,
-        limit: None,
-        trap: false,
-        users: declared.actors.users(),
-        pagers: declared.actors.pagers(),
-        image: false,
-    }
-}
-
-fn finish(alloc: Global, stage: Stage) -> Result<Script, ReadFault>
-    ensures value { Gives (λ script. script) result (ended stage) }
-    ensures built { is_sound stage ≡ true → IfOk result (λ script. is_built script ≡ true) }
-{
-    let Stage::Acting(declared, played) = stage else {
-        return Err(ReadFault::Unbuilt);
-    };
-    let birth = birth(&declared);
-    let Declared {
-        object: name,
-        actors,
-    } = declared;
-    let mut objects = Items::new(alloc);
-    objects.push(ObjectLine {
-        name,
-        birth,
-        image: None,
-    })?;
-    let Played { lines, room: _ } = played;
-    Ok(Script {
-        frames: FRAMES,
-        loan: 0,
-        warn: FRAMES / 4,
-        critical: FRAMES / 8,
-        objects,
-        actors: actors.into_lines(),
-        lines,
-    })
-}
-
-/// The script that a text spells. A text that isn't of the form read today is `Unbuilt`.
+/// The script that a text spells.
+///
+/// A text that spells none is `Bad`, with the first faulty line and, in it, the first reason in the order of `Why`. Line 0
+/// stands for the whole text, where it is longer than 4,194,304 bytes. Each byte of the text is looked at a fixed number
+/// of times; memory is taken for one line's words at a time, and for the script.
 pub fn read_script(alloc: Global, bytes: &[u8]) -> Result<Script, ReadFault>
-    ensures exact { MatchResult result (λ script. script_of bytes.now ≡ Some script) (λ fault. fault ≡ ReadFault.Unbuilt → script_of bytes.now ≡ None) }
-    ensures built { IfOk result (λ script. is_built script ≡ true) }
+    ensures exact { GivesText (λ script. script) result (script_of bytes.now) }
+    ensures sound { IfOk result (λ script. is_sound script ≡ true) }
 {
     if TEXT < bytes.len() {
-        return Err(ReadFault::Unbuilt);
+        return Err(ReadFault::Bad {
+            line: 0,
+            why: Why::Long,
+        });
     }
-    let stage = read_lines(alloc, bytes)?;
-    finish(alloc, stage)
+    read_lines(alloc, bytes)
 }

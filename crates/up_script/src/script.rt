@@ -10,13 +10,18 @@ pub type Lines = Items<Line>;
 /// Numbers of objects.
 pub type Numbers = Items<u32>;
 
-/// What a program does: the frames and the objects that it begins with, its actors and their lines.
+/// What a program does: the frames and the objects that it begins with, its actors and their lines. Lines of the text are
+/// counted from 1; objects and actors are counted from 0, in the order of their lines.
 #[derive(Debug, Drop)]
 pub struct Script {
     /// How many ordinary frames there are.
     pub frames: u32,
+    /// The line that says so.
+    pub frames_line: u32,
     /// How many loaned frames there are.
     pub loan: u32,
+    /// The line that says so, 0 where none does.
+    pub loan_line: u32,
     /// Memory is short where fewer frames than this are free.
     pub warn: u32,
     /// Memory is very short where fewer frames than this are free.
@@ -26,9 +31,10 @@ pub struct Script {
     pub lines: Lines,
 }
 
-/// An object: its name, what it is born with, and the name of its image where it has one.
+/// An object: the number of its line, its name, what it is born with, and the name of its image where it has one.
 #[derive(Debug, Drop)]
 pub struct ObjectLine {
+    pub number: u32,
     pub name: Bytes,
     pub birth: Birth,
     pub image: Option<Bytes>,
@@ -46,15 +52,16 @@ pub enum Kind {
     Evictor,
 }
 
-/// An actor and the objects that it acts on, by their numbers.
+/// An actor: the number of its line, its name, and the objects that it acts on, by their numbers. An evictor acts on all.
 #[derive(Debug, Drop)]
 pub struct ActorLine {
+    pub number: u32,
     pub name: Bytes,
     pub kind: Kind,
     pub objects: Numbers,
 }
 
-/// A line that an actor does. `number` is that of its line in the text, counted from 1; actors count from 0.
+/// A line that an actor does. `number` is that of its line in the text.
 #[derive(Debug, Drop)]
 pub struct Line {
     pub number: u32,
@@ -62,7 +69,7 @@ pub struct Line {
     pub action: Action,
 }
 
-/// What a line does. Objects count from 0.
+/// What a line does.
 #[derive(Debug, Drop)]
 pub enum Action {
     /// Goes on with what waits.
@@ -71,10 +78,13 @@ pub enum Action {
     Write { object: u32, off: u64, bytes: Bytes },
     /// One call on an object. It brings nothing yet.
     Act { object: u32, call: Call },
+    /// Writes back what is unclean, and syncs the disk.
     Sync { object: u32 },
+    /// So many steps of the sample pager.
     Turn { object: u32, steps: u32 },
     Age,
     Watch,
+    /// Wins so many frames back.
     Relieve(u32),
     Recall,
     Lend,

@@ -1,8 +1,9 @@
-use super::write_journal;
+use super::{fault_at, why_word, write_journals};
 use std::alloc::Global;
 use std::test::Fail;
 use up_journal::{Birth, Brought, Call, Entries, Entry, Reply};
 use up_num::{Bytes, Code, Items, Memory, Packet, PageNo, PageRange, Piece, Refusal};
+use up_script::{ObjectLine, Why};
 
 const FIXED: Birth = Birth {
     pages: 1,
@@ -15,12 +16,26 @@ const FIXED: Birth = Birth {
 
 const RANGE: PageRange = PageRange { first: 7, count: 2 };
 
+// The objects of one line: this name and birth.
+fn one_object(alloc: Global, name: &[u8], birth: &Birth) -> Result<Vec<ObjectLine>, Memory> {
+    let mut objects = Vec::new(alloc);
+    let name = Items::from_slice(alloc, name)?;
+    objects.push(ObjectLine {
+        number: 3,
+        name,
+        birth: *birth,
+        image: None,
+    })?;
+    Ok(objects)
+}
+
 // The text of an object `a` with these entries.
 fn journal_text(alloc: Global, birth: &Birth, entries: Vec<Entry>) -> Result<Vec<u8>, Memory> {
-    let name = Items::from_slice(alloc, b"a")?;
-    let entries: Entries = Items::from_vec(entries);
+    let objects = one_object(alloc, b"a", birth)?;
+    let mut journals: Vec<Entries> = Vec::new(alloc);
+    journals.push(Items::from_vec(entries))?;
     let mut out = Vec::new(alloc);
-    write_journal(&name, birth, &entries, &mut out)?;
+    write_journals(objects.as_slice(), journals.as_slice(), &mut out)?;
     Ok(out)
 }
 
@@ -96,9 +111,11 @@ fn births_and_what_stood_before(rt: HostRuntime) -> Result<(), Fail> {
         pagers: 64,
         image: true,
     };
-    let name = Items::from_slice(rt.alloc(), b"swap0")?;
+    let objects = one_object(rt.alloc(), b"swap0", &birth)?;
+    let mut journals: Vec<Entries> = Vec::new(rt.alloc());
+    journals.push(Items::new(rt.alloc()))?;
     let mut out = Vec::from_slice(rt.alloc(), b"before")?;
-    write_journal(&name, &birth, &Items::new(rt.alloc()), &mut out)?;
+    write_journals(objects.as_slice(), journals.as_slice(), &mut out)?;
     let want = "beforepagerd-journal 1\njournal swap0 3 16 trap 10 64 image\nend 0\ndone\n";
     assert_eq!(rt; out.as_slice(), want.as_bytes());
     Ok(())
@@ -199,5 +216,30 @@ fn refusals(rt: HostRuntime) -> Result<(), Fail> {
     for (why, want) in refusals {
         assert!(rt; has_text(rt.alloc(), Reply::Refused(why), want)?, "{want}");
     }
+    Ok(())
+}
+
+#[test]
+fn faults_are_told(rt: HostRuntime) -> Result<(), Fail> {
+    let words: [(Why, &[u8]); 12] = [
+        (Why::Long, b"fault 0 long\n"),
+        (Why::Limit, b"fault 0 limit\n"),
+        (Why::Cut, b"fault 0 cut\n"),
+        (Why::Header, b"fault 0 header\n"),
+        (Why::Word, b"fault 0 word\n"),
+        (Why::Name, b"fault 0 name\n"),
+        (Why::Number, b"fault 0 number\n"),
+        (Why::Bytes, b"fault 0 bytes\n"),
+        (Why::Role, b"fault 0 role\n"),
+        (Why::Left, b"fault 0 left\n"),
+        (Why::Missing, b"fault 0 missing\n"),
+        (Why::Order, b"fault 0 order\n"),
+    ];
+    for (why, want) in words {
+        let text = fault_at(rt.alloc(), 0, why_word(why))?;
+        assert!(rt; text.as_slice() == want);
+    }
+    let text = fault_at(rt.alloc(), 65_537, b"unbuilt")?;
+    assert!(rt; text.as_slice() == b"fault 65537 unbuilt\n".as_slice());
     Ok(())
 }

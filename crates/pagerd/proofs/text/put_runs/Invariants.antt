@@ -1,5 +1,5 @@
 use Rattle.std.proofs.Common.{◌≡◌, ◌+◌, ◌≤◌, ◌++◌, length}
-use Rattle.pagerd.specs.Text.{text_from}
+use Rattle.up_words.specs.Runs.{text_from}
 use Rattle.pagerd.proofs.text.put_runs.Given as goal
 
 -- what was written and what is still to come make the whole

@@ -1,28 +1,41 @@
-use Rattle.std.proofs.Common.{rules, ◌∙◌, ap, sym, subst, Option}
-use Rattle.std.proofs.lemmas.Result.{err_from_is_err_and}
-use Rattle.up_script.specs.Steps.{Fails, Gives}
-use Rattle.up_script.specs.Reading.{lines_from}
-use Rattle.up_script.specs.declared.reading.Stage.{Stage}
-use Rattle.up_script.proofs.Steps.{lines_more, lines_fail, lines_last}
+use Rattle.std.proofs.Common.{rules, ◌∙◌, ap, sym, subst, Result}
+use Rattle.up_words.specs.Steps.{at_line, lines_from, FailsText}
+use Rattle.up_words.specs.declared.fault.Fault.{Fault}
+use Rattle.up_words.proofs.Steps.{lines_more, lines_fail, lines_last, at_line_fails}
+use Rattle.up_script.specs.Reading.{line_step, last_step}
+use Rattle.up_script.specs.declared.script.Script.{Script}
 use Rattle.up_script.proofs.reading.read_lines.Goals as goal
 
-pub returns-in-None-clause-value : goal.returns-in-None-clause-value
-returns-in-None-clause-value c =
+pub returns-in-Ok-clause-value : goal.returns-in-Ok-clause-value
+returns-in-Ok-clause-value c =
     let cut = rw c.in-None.is at c.front.ensures.lines in
-    subst (λ (o : Option Stage). Gives (λ s. s) c.end.result o) (sym (lines_last c.loop-stage.number c.loop-stage.stage c.front.result.0.now) ∙ (sym (ap (lines_from c.loop-stage.number c.loop-stage.stage) cut) ∙ c.loop-stage.invariant.told)) c.end.ensures.value
+    let from = c.loop-stage in
+    sym from.invariant.told ∙ ap (lines_from line_step last_step from.number from.stage) cut
+    ∙ lines_last line_step last_step from.number from.stage c.front.result.0.now ∙ ap (at_line from.number) c.in-Ok.ensures.value
 
-pub returns-in_err-stage-in-Some-clause-value : goal.returns-in_err-stage-in-Some-clause-value
-returns-in_err-stage-in-Some-clause-value c =
-    let p = err_from_is_err_and c.from_residual.result c.from_residual.ensures.1 in
+pub returns-in-Err-clause-value : goal.returns-in-Err-clause-value
+returns-in-Err-clause-value c =
+    let cut = rw c.in-None.is at c.front.ensures.lines in
+    let from = c.loop-stage in
+    let rest = c.front.result.0.now in
+    subst (λ (o : Result Script Fault). FailsText c.at.result o)
+    (sym (lines_last line_step last_step from.number from.stage rest) ∙ (sym (ap (lines_from line_step last_step from.number from.stage) cut) ∙ from.invariant.told))
+    (rw c.at.ensures (at_line_fails c.in-Err.stop from.number (last_step from.number from.stage rest) c.in-Err.ensures.value))
+
+pub returns-in-Err-read_line-clause-value : goal.returns-in-Err-read_line-clause-value
+returns-in-Err-read_line-clause-value c =
     let cut = rw c.in-Some.is at c.front.ensures.lines in
-    let fault = c.in_err-stage-in-Some.field-0.0 in
-    rw (p.1, p.2) (subst (λ (o : Option Stage). Fails fault o) (sym (ap (lines_from c.loop-stage.number c.loop-stage.stage) cut) ∙ c.loop-stage.invariant.told)
-    (lines_fail fault c.loop-stage.number c.loop-stage.stage c.front.result.0.now c.in-Some.after.now c.in_err-stage-in-Some.ensures.value))
+    let from = c.loop-stage in
+    subst (λ (o : Result Script Fault). FailsText c.at-in-Err-read_line.result o)
+    (sym (ap (lines_from line_step last_step from.number from.stage) cut) ∙ from.invariant.told)
+    (rw c.at-in-Err-read_line.ensures (lines_fail line_step last_step c.in-Err-read_line.stop from.number from.stage c.front.result.0.now c.in-Some.after.now c.in-Err-read_line.ensures.value))
 
 pub loop-stage-preserved : goal.loop-stage-preserved
 loop-stage-preserved c =
     let cut = rw c.in-Some.is at c.front.ensures.lines in
+    let from = c.loop-stage in
     record {
-      told = sym (lines_more c.loop-stage.number c.loop-stage.stage c.in_ok-stage-in-Some.stage c.front.result.0.now c.in-Some.after.now c.in_ok-stage-in-Some.ensures.value) ∙ (sym (ap (lines_from c.loop-stage.number c.loop-stage.stage) cut) ∙ c.loop-stage.invariant.told);
+      told = sym (lines_more line_step last_step from.number from.stage c.in-Ok-read_line.next c.front.result.0.now c.in-Some.after.now c.in-Ok-read_line.ensures.value)
+          ∙ (sym (ap (lines_from line_step last_step from.number from.stage) cut) ∙ from.invariant.told);
       sound = search rules;
     }

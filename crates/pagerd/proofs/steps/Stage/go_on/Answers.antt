@@ -1,20 +1,37 @@
-use Rattle.std.proofs.Common.{◌≡◌, ◌<◌, length, Some, None, true, slice_get, refl, sym, ◌∙◌, arith}
+use Rattle.std.proofs.Common.{◌≡◌, ◌<◌, length, Option, Some, None, true, slice_get, refl, ap, sym, ◌∙◌, subst, ℕ, arith}
 use Rattle.std.proofs.lemmas.Option.{slice_get_read}
-use Rattle.up_journal.specs.Parked.{waits_under}
-use Rattle.up_script.specs.Built.{is_built_action}
-use Rattle.up_journal.proofs.Bools.{and_right}
-use Rattle.pagerd.proofs.Blocks.{goes_past, built_line, no_ticket}
+use Rattle.up_journal.proofs.Bools.{and_left, and_right}
+use Rattle.up_script.specs.Sound.{is_sound_action}
+use Rattle.pagerd.specs.Built.{is_built_action, is_able_line}
+use Rattle.pagerd.specs.declared.steps.Parked.{Parked}
+use Rattle.pagerd.proofs.Blocks.{went_waiting, went_through, goes_past, able_line, no_parked}
 use Rattle.pagerd.proofs.steps.Stage.go_on.Goals as goal
+
+pub returns-then-is_some : goal.returns-then-is_some
+returns-then-is_some c = went_waiting c.args.lines.now c.args.who c.args.end c.loop-at.at c.args.self.now c.loop-at.self c.waiting.result c.loop-at.invariant c.waiting.ensures (sym c.is_some.ensures ∙ c.if-is_some.true)
+
+pub pass-requires-clause-sound : goal.pass-requires-clause-sound
+pass-requires-clause-sound c =
+    let lines = c.args.lines.now in
+    let old = c.args.self.now in
+    let line = c.index-lines-at.result in
+    let is : slice_get lines c.loop-at.at ≡ Some line = slice_get_read lines (length lines) c.loop-at.at line refl (omega arith) c.index-lines-at.is in
+    let able = able_line (length old.lives) (length old.done) lines c.loop-at.at line c.requires.able is in
+    subst (λ (n : ℕ). is_sound_action n line.action ≡ true) (sym c.loop-at.invariant.shape.lives) (and_right _ _ (and_left _ _ able))
 
 pub loop-at-preserved : goal.loop-at-preserved
 loop-at-preserved c =
     let lines = c.args.lines.now in
+    let old = c.args.self.now in
     let at = c.loop-at.at in
     let line = c.index-lines-at.result in
-    let within : at < length lines = omega arith in
-    let is : slice_get lines at ≡ Some line = slice_get_read lines (length lines) at line refl within c.index-lines-at.is in
-    let known : c.args.who < length c.loop-at.self.done = rw c.loop-at.invariant.count c.requires.known in
-    let free : waits_under c.loop-at.self.journal c.args.who ≡ None = sym c.ticket_of.ensures ∙ no_ticket c.ticket_of.result (sym c.is_some.ensures ∙ c.if-is_some.false) in
-    let earlier : at < c.args.end = c.loop-at-test.true in
-    let built : is_built_action line.action ≡ true = and_right _ _ (built_line (length c.args.self.now.done) lines at line c.requires.built is) in
-    goes_past lines c.args.who c.args.end at c.args.self.now c.loop-at.self c.pass.new.self line c.loop-at.invariant known earlier is built free c.in_ok-pass.ensures
+    let is : slice_get lines at ≡ Some line = slice_get_read lines (length lines) at line refl (omega arith) c.index-lines-at.is in
+    let able = able_line (length old.lives) (length old.done) lines at line c.requires.able is in
+    let known : c.args.who < length c.loop-at.self.done = rw c.loop-at.invariant.shape.done c.requires.known in
+    let free : slice_get c.loop-at.self.waits c.args.who ≡ Some None = c.waiting.ensures ∙ ap (λ (o : Option Parked). Some o) (no_parked c.waiting.result (sym c.is_some.ensures ∙ c.if-is_some.false)) in
+    goes_past lines c.args.who c.args.end at old c.loop-at.self c.pass.new.self line c.loop-at.invariant known c.loop-at-test.true is (and_right _ _ able) free c.in_ok-pass.ensures
+
+pub returns : goal.returns
+returns c =
+    let known : c.args.who < length c.loop-at.self.done = rw c.loop-at.invariant.shape.done c.requires.known in
+    went_through c.args.lines.now c.args.who c.args.end c.loop-at.at c.args.self.now c.loop-at.self c.loop-at.invariant known (omega arith)

@@ -11,4 +11,4 @@ returns c =
     let line = c.index-lines-at.result in
     let is : slice_get lines c.args.at ≡ Some line = slice_get_read lines (length lines) c.args.at line refl c.requires.within c.index-lines-at.is in
     IfOk-weaker c.go_on.result (λ _. WentOn lines line.actor (c.args.at + 1) c.begin.new.self c.go_on.new.self) (λ _. Did lines c.args.at c.args.self.now c.go_on.new.self)
-    (λ _ went. line_did lines c.args.at c.args.self.now c.begin.new.self c.go_on.new.self line is c.in_ok-begin.ensures went) c.go_on.ensures
+    (λ _ went. line_did lines c.args.at c.args.self.now c.begin.new.self c.go_on.new.self line is c.begin.ensures.known c.in_ok-begin.ensures.began went) c.go_on.ensures

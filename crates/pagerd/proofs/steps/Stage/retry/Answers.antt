@@ -1,29 +1,59 @@
-use Rattle.std.proofs.Common.{◌≡◌, ◌<◌, length, true, refl, ap, sym, ◌∙◌, subst}
+use Rattle.std.proofs.Common.{◌≡◌, ◌<◌, length, Some, slice_get, slice_set, refl, ap, sym, ◌∙◌, subst, arith}
+use Rattle.up_journal.specs.Legal.{Life}
 use Rattle.up_journal.specs.Parked.{waits_after, waits_under}
-use Rattle.up_journal.specs.Reply.{proper}
 use Rattle.up_journal.specs.declared.entry.Brought.TheVariants.{Nothing}
 use Rattle.up_journal.specs.declared.entry.Call.{Call}
 use Rattle.up_journal.specs.declared.entry.Call.TheVariants.{Retry}
 use Rattle.up_journal.specs.declared.entry.Reply.{Reply}
 use Rattle.up_journal.proofs.Holding.{waits_may_retry}
-use Rattle.pagerd.specs.Stage.{Staged}
-use Rattle.pagerd.proofs.Staging.{stands_acted}
+use Rattle.pagerd.specs.Stage.{Staged, Acted}
+use Rattle.pagerd.specs.Steps.{retry_of, parked_at}
+use Rattle.pagerd.proofs.Staging.{get_within, get_is, some_same, keeps_by, acted_by}
 use Rattle.pagerd.proofs.steps.Stage.retry.Goals as goal
 
+pub index_mut-requires : goal.index_mut-requires
+index_mut-requires c =
+    let objects = c.self.inside.objects in
+    let held = c.self.invariant.held c.args.who c.args.parked (ap (λ (v : Staged). slice_get v.waits c.args.who) c.self.view_is ∙ c.requires.waits) in
+    omega (arith, get_within objects.items c.args.parked.object held.life held.is, objects.ok.0)
+
 pub retry-requires : goal.retry-requires
-retry-requires c = record {
-  proper = waits_may_retry c.self.inside.object.birth c.self.inside.object.journal c.self.invariant.legal c.args.who c.args.ticket
-      (ap (λ (v : Staged). waits_under v.journal c.args.who) c.self.view_is ∙ c.requires.waits);
-}
+retry-requires c =
+    let objects = c.self.inside.objects.items in
+    let parked = c.args.parked in
+    let life = c.index_mut.result.now in
+    let held = c.self.invariant.held c.args.who parked (ap (λ (v : Staged). slice_get v.waits c.args.who) c.self.view_is ∙ c.requires.waits) in
+    let is = get_is objects parked.object life (get_within objects parked.object held.life held.is) c.index_mut.ensures.value in
+    let same : held.life ≡ life = some_same held.life life (sym held.is ∙ is) in
+    record {
+      proper = waits_may_retry life.birth life.journal (c.self.invariant.legal parked.object life is) c.args.who parked.ticket
+          (subst (λ (l : Life). waits_under l.journal c.args.who ≡ Some parked.ticket) same held.under);
+    }
 
 pub invariant_of-self-2 : goal.invariant_of-self-2
 invariant_of-self-2 c =
-    let call : Call = Retry c.args.ticket Nothing in
-    let held : proper c.self.inside.object.journal c.args.who call ≡ true =
-    waits_may_retry c.self.inside.object.birth c.self.inside.object.journal c.self.invariant.legal c.args.who c.args.ticket
-    (ap (λ (v : Staged). waits_under v.journal c.args.who) c.self.view_is ∙ c.requires.waits) in
-    stands_acted c.self.inside.object.birth c.self.inside.object.journal c.self.inside.waits.items _ c.self.inside.done.items c.args.who call
-    c.ticket_after.result c.retry.new.object c.self.invariant
-    (subst (λ (v : Staged). c.args.who < length v.done) (sym c.self.view_is) c.requires.known) held
-    (c.ticket_after.ensures call refl ∙ ap (λ (r : Reply). waits_after r call) c.in_ok-reply.ensures.reply)
-    c.in_ok-reply.ensures.ok refl
+    let objects = c.self.inside.objects.items in
+    let parked = c.args.parked in
+    let call : Call = Retry parked.ticket Nothing in
+    let life = c.index_mut.result.now in
+    let held = c.self.invariant.held c.args.who parked (ap (λ (v : Staged). slice_get v.waits c.args.who) c.self.view_is ∙ c.requires.waits) in
+    let is = get_is objects parked.object life (get_within objects parked.object held.life held.is) c.index_mut.ensures.value in
+    let same : held.life ≡ life = some_same held.life life (sym held.is ∙ is) in
+    let may = waits_may_retry life.birth life.journal (c.self.invariant.legal parked.object life is) c.args.who parked.ticket
+    (subst (λ (l : Life). waits_under l.journal c.args.who ≡ Some parked.ticket) same held.under) in
+    keeps_by objects c.self.inside.waits.items c.self.inside.done.items c.args.who (retry_of parked) life c.retry.new.object c.parked_on.result c.self.invariant
+    (subst (λ (v : Staged). c.args.who < length v.done) (sym c.self.view_is) c.requires.known) is may c.in_ok-reply.ensures.ok
+    (c.parked_on.ensures ∙ ap (parked_at parked.object) (c.ticket_after.ensures call refl ∙ ap (λ (r : Reply). waits_after r call) c.in_ok-reply.ensures.reply))
+
+pub returns : goal.returns
+returns c =
+    let objects = c.self.inside.objects.items in
+    let parked = c.args.parked in
+    let call : Call = Retry parked.ticket Nothing in
+    let life = c.index_mut.result.now in
+    let held = c.self.invariant.held c.args.who parked (ap (λ (v : Staged). slice_get v.waits c.args.who) c.self.view_is ∙ c.requires.waits) in
+    let is = get_is objects parked.object life (get_within objects parked.object held.life held.is) c.index_mut.ensures.value in
+    let now : Staged = record { lives = slice_set objects parked.object c.retry.new.object; waits = slice_set c.self.inside.waits.items c.args.who c.parked_on.result; done = c.self.inside.done.items } in
+    subst (λ (v : Staged). Acted v now c.args.who (retry_of parked)) c.self.view_is
+    (acted_by objects c.self.inside.waits.items c.self.inside.done.items c.args.who (retry_of parked) life c.retry.new.object c.parked_on.result is c.in_ok-reply.ensures.ok
+    (c.parked_on.ensures ∙ ap (parked_at parked.object) (c.ticket_after.ensures call refl ∙ ap (λ (r : Reply). waits_after r call) c.in_ok-reply.ensures.reply)))

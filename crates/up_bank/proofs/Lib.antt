@@ -1,0 +1,9 @@
+pub mod Lists
+pub mod Moves
+pub mod Views
+pub mod Steps
+pub mod Sizes
+pub mod Claims
+pub mod Scans
+pub mod Counts
+pub mod Moments

@@ -1,0 +1,5 @@
+use Rattle.up_bank.proofs.Moments.{frames_differ}
+use Rattle.up_bank.proofs.laws.frames_differ.Goals as goal
+
+pub returns : goal.returns
+returns c = frames_differ

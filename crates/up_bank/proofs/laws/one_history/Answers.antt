@@ -1,0 +1,5 @@
+use Rattle.up_bank.proofs.Moments.{one_history}
+use Rattle.up_bank.proofs.laws.one_history.Goals as goal
+
+pub returns : goal.returns
+returns c = one_history

@@ -1,0 +1,7 @@
+pub mod Bytes
+pub mod Find
+pub mod Standing
+pub mod Banked
+pub mod Plays
+pub mod Scan
+pub mod Laws

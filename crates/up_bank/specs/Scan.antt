@@ -1,0 +1,76 @@
+-- What the functions on a bank's table say of a seat's view, within the crate.
+use Rattle.std.specs.Prelude.{◌≡◌, ℕ, ◌+◌, ◌-◌, ◌*◌, ◌/◌, ◌%◌, ◌<◌, ◌≤◌, true, false, List, [], ◌∷◌, ◌++◌, length, slice_index, slice_set, min, Any, sum, take, map}
+use Rattle.std.specs.Int.{bit_at}
+use Rattle.up_bank.specs.Bytes.{Given, bytes_of}
+use Rattle.up_bank.specs.Find.{Find, HasOut, HasHome, homes_in}
+use Rattle.up_bank.specs.Standing.{BankId, Held, frames_of}
+use Rattle.up_bank.specs.Plays.{Sat, Learns}
+use Rattle.up_bank.specs.declared.view.View.{View}
+
+-- the seat has no frame and no slot, and may step
+pub record Idle (m : Sat) : Type 0 where
+  pub has : m.0.has ≡ 0
+  pub empty : m.0.empty ≡ 0
+  pub acts : m.0.rests ≡ false
+  pub bare : m.1 ≡ []
+
+-- the finds have the frame out; a sole seat knew it
+pub record Gone (v : View) (more : List Find) (number : ℕ) : Type 0 where
+  pub found : Any (HasOut number) more
+  pub known : v.sole ≡ true → slice_index v.home number ≡ 0
+
+-- a seat that has claimed a frame
+abbrev pub claimed : View → ℕ → List Find → List Given → View
+claimed v number more gives = record v { has = 0; empty = 0; home = slice_set v.home number 0; finds = v.finds ++ more; gives = gives }
+
+-- a claim of the frame, by these finds and with these bytes
+pub record Claimed (v : View) (m' : Sat) (number : ℕ) (bytes : List ℕ) (most : ℕ) : Type 0 where
+  pub others : List Find
+  pub last : Find
+  pub gives : List Given
+  pub home : HasHome number last
+  pub few : length others < most
+  pub known : v.sole ≡ true → number < length v.home → slice_index v.home number ≡ 1
+  pub learns : Learns v gives
+  pub bytes_are : bytes ≡ bytes_of gives number
+  pub is : m' ≡ (claimed v number (others ++ last ∷ []) gives, [])
+
+-- a claim of some frame of the bank
+abbrev pub Got : BankId → View → Sat → ℕ → Held → Type 0
+Got bank v m' most frame = (frame.bank ≡ bank) × (frame.number < frames_of bank) × Claimed v m' frame.number frame.bytes most
+
+-- how many frames a word of the bitmap has
+abbrev pub frames_in : BankId → ℕ → ℕ
+frames_in bank word = min (frames_of bank - word * 64) 64
+
+-- a word of the bitmap has this frame
+abbrev pub IsIn : BankId → ℕ → ℕ → Type 0
+IsIn bank word number = (number / 64 ≡ word) × (number < frames_of bank)
+
+-- more finds, and nothing else
+abbrev pub with_finds : View → List Find → View
+with_finds v more = record v { finds = v.finds ++ more }
+
+-- finds that have each of some frames out, and are so few
+pub record Missed (v : View) (m' : Sat) (most : ℕ) (frames : ℕ → Type 0) : Type 0 where
+  pub more : List Find
+  pub few : length more ≤ most
+  pub each : (number : ℕ) → frames number → Gone v more number
+  pub is : m' ≡ (with_finds v more, [])
+
+-- a claim as far as some bits of one word: the frames before that bit are out, and so is each whose bit isn't left
+pub record Scanning (v : View) (m' : Sat) (word bit left : ℕ) : Type 0 where
+  pub more : List Find
+  pub few : length more ≤ bit + 1
+  pub done : (number : ℕ) → number / 64 ≡ word → number % 64 < bit → Gone v more number
+  pub hint : (number : ℕ) → number / 64 ≡ word → bit_at left (number % 64) ≡ 0 → Gone v more number
+  pub is : m' ≡ (with_finds v more, [])
+
+-- a count as far as some word
+pub record Counting (v : View) (m' : Sat) (frames word count : ℕ) : Type 0 where
+  pub more : List Find
+  pub one_each : length more ≡ word
+  pub in_order : (i : ℕ) → i < length more → slice_index (map (λ f. f.word) more) i ≡ i
+  pub homes : count ≡ homes_in frames more
+  pub alone : v.sole ≡ true → length v.home ≡ frames → count ≡ sum (take (min (word * 64) frames) v.home)
+  pub is : m' ≡ (with_finds v more, [])

@@ -1,0 +1,17 @@
+//! The frame bank: page frames that many threads claim and give back at once, each frame with one owner.
+#![tactic(auto)]
+
+mod bank;
+mod block;
+mod frame;
+mod kind;
+pub mod laws;
+mod place;
+mod rule;
+#[cfg(test)]
+mod tests;
+mod view;
+
+pub use bank::{Bank, BankSeat, Scan};
+pub use frame::Frame;
+pub use kind::FrameKind;

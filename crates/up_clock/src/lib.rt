@@ -1,0 +1,11 @@
+//! The generation clock: a number that many threads read and age at once, which never falls.
+#![tactic(auto)]
+
+mod clock;
+pub mod laws;
+mod rule;
+#[cfg(test)]
+mod tests;
+mod view;
+
+pub use clock::{Clock, ClockSeat};

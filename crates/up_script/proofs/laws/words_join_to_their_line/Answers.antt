@@ -1,5 +1,0 @@
-use Rattle.up_script.proofs.Decimals.{joins}
-use Rattle.up_script.proofs.laws.words_join_to_their_line.Goals as goal
-
-pub returns : goal.returns
-returns c = joins

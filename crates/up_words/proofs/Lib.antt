@@ -1,0 +1,7 @@
+pub mod Steps
+pub mod Fronts
+pub mod Decimals
+pub mod Hex
+pub mod Counts
+pub mod Pieces
+pub mod ByteLists

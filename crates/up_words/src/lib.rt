@@ -1,0 +1,20 @@
+//! What both texts of the pager are made of: lines, words, numbers, names and byte lists, and the faults that a reader
+//! names.
+#![tactic(auto)]
+
+mod fault;
+mod laws;
+mod names;
+mod numbers;
+mod runs;
+mod words;
+
+pub use fault::{Fault, ReadFault, Stop, Why};
+pub use laws::{byte_lists_are_runs, numbers_are_decimal, words_join_to_their_line};
+pub use names::spells_name;
+pub use numbers::{parse_number, read_between};
+pub use runs::{Run, Runs, TOO_MANY, read_bytes, read_runs, spread_runs};
+pub use words::{Words, front, read_words};
+
+#[cfg(test)]
+mod tests;
