@@ -4,12 +4,11 @@ use Rattle.std.proofs.Common.{length-set, get_or-set_same, get_or-set_other}
 use Rattle.std.specs.Bool.{MatchBool}
 use Rattle.up_journal.specs.Legal.{Life, after}
 use Rattle.up_journal.specs.Parked.{retried}
-use Rattle.up_journal.specs.declared.entry.Birth.{Birth}
 use Rattle.up_journal.proofs.Bools.{and_left, and_right, not_true, nat_eq_true, nat_eq-same, differ}
 use Rattle.up_script.specs.declared.script.Line.{Line}
 use Rattle.pagerd.specs.Built.{is_built_action, is_able_line, are_able}
-use Rattle.pagerd.specs.Steps.{Entered, Aimed, is_go, acts, call_of, aim_of, calls_of, parks, begun, retry_of, parked_to_retry, LineBegins, Block, IsNext, IsDone, LineDone, Steps}
-use Rattle.pagerd.specs.Stage.{Staged, entry_of, Acted, Rested, Passed, or_nowhere, waits_at, Began, SameShape, EnteredFor, Paced, StoodAt, Further, GoesOn, WentOn, DoneTo, Did, GoneThrough}
+use Rattle.pagerd.specs.Steps.{Entered, Aimed, is_go, acts, call_of, aim_of, calls_of, parks, begun, retry_of, parked_to_retry, LineBegins, Block, LineDone, Steps}
+use Rattle.pagerd.specs.Stage.{Staged, entry_of, Acted, Rested, Passed, or_nowhere, waits_at, Began, SameShape, EnteredFor, Paced, StoodAt, Further, GoesOn, WentOn, Did, GoneThrough}
 use Rattle.pagerd.specs.declared.steps.Parked.{Parked}
 use Rattle.pagerd.proofs.Staging.{get_within, some_same, entered_acted, entered_same, births_acted, built_no_retry}
 

@@ -1,5 +1,5 @@
 -- The journals that a script makes, from its first stage to its last.
-use Rattle.std.proofs.Common.{◌≡◌, ℕ, ◌+◌, ◌<◌, ◌&&◌, true, false, Bool, cond, Option, Some, None, List, [], ◌∷◌, length, map, replicate, reverse, slice_get, slice_index, zero, suc, refl, ap, ap₂, sym, ◌∙◌, subst, arith}
+use Rattle.std.proofs.Common.{◌≡◌, ℕ, ◌+◌, ◌<◌, ◌&&◌, true, Bool, Option, Some, None, List, [], ◌∷◌, length, map, replicate, reverse, slice_get, slice_index, zero, suc, refl, ap, ap₂, sym, ◌∙◌, subst, arith}
 use Rattle.std.specs.List.{list_all}
 use Rattle.std.proofs.lemmas.List.{length-replicate}
 use Rattle.std.proofs.lemmas.Bool.{and_parts}
@@ -10,9 +10,9 @@ use Rattle.up_script.specs.Sound.{are_sound_objects, is_sound_object, is_sound_l
 use Rattle.up_script.specs.declared.script.Line.{Line}
 use Rattle.up_script.specs.declared.script.ObjectLine.{ObjectLine}
 use Rattle.up_script.specs.declared.script.Script.{Script}
-use Rattle.pagerd.specs.Built.{first_failing, or_number, unbuilt_frames, unbuilt_loan, unbuilt_line, is_built_object, is_built_actor, is_built_line, object_number, actor_number, line_number, is_able_object, is_able_line, are_able}
-use Rattle.pagerd.specs.Steps.{Entered, of_object, calls_of, begun, Steps}
-use Rattle.pagerd.specs.Stage.{Staged, EnteredFor, Paced, StoodAt, GoneThrough}
+use Rattle.pagerd.specs.Built.{first_failing, or_number, unbuilt_frames, unbuilt_loan, unbuilt_line, is_built_object, is_built_actor, is_built_line, object_number, actor_number, line_number, is_able_object, are_able}
+use Rattle.pagerd.specs.Steps.{Entered, of_object}
+use Rattle.pagerd.specs.Stage.{Staged, StoodAt, GoneThrough}
 use Rattle.pagerd.specs.Standing.{Keeps}
 use Rattle.pagerd.specs.Journals.{journals_from, AreJournalsOf, AllLegal, new_life, new_lives, ends_of}
 use Rattle.pagerd.specs.declared.steps.Parked.{Parked}

@@ -1,5 +1,5 @@
 -- One call more keeps what holds of a stage.
-use Rattle.std.proofs.Common.{length-set, ◌≡◌, ℕ, ◌<◌, ◌≤◌, ◌==◌, ◌&&◌, not, nat_lt, nat_le, is_some, true, false, cond, get_or, Option, Some, None, List, [], ◌∷◌, length, zero, suc, slice_get, slice_set, map, refl, ap, ap₂, sym, ◌∙◌, subst, arith}
+use Rattle.std.proofs.Common.{length-set, ◌≡◌, ℕ, ◌<◌, ◌≤◌, ◌==◌, ◌&&◌, not, nat_lt, nat_le, is_some, true, false, cond, get_or, Option, Some, None, List, [], ◌∷◌, length, zero, suc, slice_get, slice_set, map, refl, ap, sym, ◌∙◌, subst, arith}
 use Rattle.std.specs.List.{list_all}
 use Rattle.std.proofs.lemmas.Bool.{and_parts, leb-true, ltb-true}
 use Rattle.std.proofs.lemmas.Bool.Decides.{nat_tests}
@@ -8,7 +8,6 @@ use Rattle.up_journal.specs.Parked.{retried, waits_after, waits_under}
 use Rattle.up_journal.specs.Reply.{proper, reply}
 use Rattle.up_journal.specs.declared.entry.Birth.{Birth}
 use Rattle.up_journal.specs.declared.entry.Entry.{Entry}
-use Rattle.up_journal.specs.declared.entry.Call.{Call}
 use Rattle.up_journal.specs.declared.entry.Call.TheVariants.{Packet, Supply, Retry}
 use Rattle.up_script.specs.declared.script.Action.{Action}
 use Rattle.up_script.specs.declared.script.Action.TheVariants.{Go, Read, Act}
@@ -18,7 +17,7 @@ use Rattle.up_script.specs.declared.script.ObjectLine.{ObjectLine}
 use Rattle.up_state.proofs.Lists.{zero_is_no_suc, suc_is_not_zero, same_suc}
 use Rattle.pagerd.specs.Built.{is_built_action, has_limits, is_built_object, is_able_object}
 use Rattle.pagerd.specs.Steps.{Entered, Aimed, of_object, parked_at, parks, is_go, call_of, object_at}
-use Rattle.pagerd.specs.Stage.{Staged, entry_of, parked_after, Acted, Rested, EnteredFor}
+use Rattle.pagerd.specs.Stage.{Staged, entry_of, parked_after, Acted, EnteredFor}
 use Rattle.pagerd.specs.Standing.{IsParked, Keeps}
 use Rattle.pagerd.specs.declared.steps.Parked.{Parked}
 

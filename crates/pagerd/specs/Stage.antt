@@ -3,9 +3,8 @@ use Rattle.std.specs.Prelude.{◌≡◌, ℕ, ◌+◌, ◌<◌, ◌≤◌, cond,
 use Rattle.std.specs.Bool.{MatchBool}
 use Rattle.up_journal.specs.Legal.{Life, after, due}
 use Rattle.up_journal.specs.Parked.{waits_after}
-use Rattle.up_journal.specs.declared.entry.Birth.{Birth}
 use Rattle.up_script.specs.declared.script.Line.{Line}
-use Rattle.pagerd.specs.Steps.{Entered, Aimed, of_object, parked_at, parks, begun, calls_of, aim_of, is_go, acts, retry_of, Block, LineBegins, IsDone, LineDone, Steps}
+use Rattle.pagerd.specs.Steps.{Entered, Aimed, of_object, parked_at, parks, begun, calls_of, aim_of, is_go, acts, retry_of, Block, IsDone, LineDone, Steps}
 use Rattle.pagerd.specs.declared.steps.Parked.{Parked}
 
 -- what contracts see of it: each object's birth and journal, where each actor waits, and up to which line its lines are done

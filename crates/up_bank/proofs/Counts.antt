@@ -1,5 +1,5 @@
 -- A count of the frames at home, word by word.
-use Rattle.std.proofs.Common.{◌≡◌, ◌≢◌, ℕ, zero, suc, ◌+◌, ◌-◌, ◌*◌, ◌/◌, ◌%◌, ◌<◌, ◌≤◌, List, [], ◌∷◌, ◌++◌, length, get_or, take, map, min, sym, refl, ap, ◌∙◌, subst, arith, append-nil, append_assoc, length-append}
+use Rattle.std.proofs.Common.{◌≡◌, ◌≢◌, ℕ, zero, suc, ◌+◌, ◌-◌, ◌*◌, ◌/◌, ◌%◌, ◌<◌, ◌≤◌, List, [], ◌∷◌, ◌++◌, length, get_or, take, map, None, min, sym, refl, ap, ◌∙◌, subst, arith, append-nil, append_assoc, length-append}
 use Rattle.std.specs.Int.{bit_at}
 use Rattle.std.specs.List.{sum}
 use Rattle.std.proofs.lemmas.List.{get_or-append_right, get_or_append_left}
@@ -49,7 +49,7 @@ order_more fs f last each i inside = let words : List ℕ = map (λ (x : Find). 
 pub count_more : (v : View) (m' m2 : Sat) (word frames count was bits : ℕ) → Counting v m' frames word count → m2 ≡ (saw m'.0 word was, m'.1) → AsKnown m'.0 word was → word < words_of frames
     → bits ≡ bits_set was (min (frames - word * 64) 64) → Counting v m2 frames (word + 1) (count + bits)
 count_more v m' m2 word frames count was bits c e known inside is =
-    let find : Find = record { word = word; was = was } in let same : m'.0 ≡ with_finds v c.more = ap (λ (x : Sat). x.0) c.is in
+    let find : Find = record { word = word; was = was; tried = None } in let same : m'.0 ≡ with_finds v c.more = ap (λ (x : Sat). x.0) c.is in
     let known_v : AsKnown v word was = subst (λ (x : View). AsKnown x word was) same known in record {
       more = c.more ++ find ∷ [];
       one_each = let h = c.one_each in omega (arith, length-append c.more (find ∷ []));

@@ -3,6 +3,7 @@ pub mod Moves
 pub mod Views
 pub mod Steps
 pub mod Sizes
+pub mod Rises
 pub mod Claims
 pub mod Scans
 pub mod Counts

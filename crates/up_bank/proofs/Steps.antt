@@ -14,7 +14,7 @@ use Rattle.atomic_table.proofs.Lists.{set_here, set_else}
 use Rattle.up_bank.specs.Bytes.{Given, zero_bytes, bytes_of, Extends}
 use Rattle.up_bank.specs.Find.{words_of}
 use Rattle.up_bank.specs.Banked.{Vault, home_bit, empty_bit, Has, Alone, Banked, newcomer}
-use Rattle.up_bank.specs.Plays.{Slot, Sat, mask_of, saw, AsKnown, Learns, looked, took, Hit, cleared, vacated, reclaimed, gave, Put, restored}
+use Rattle.up_bank.specs.Plays.{Slot, Sat, mask_of, saw, fetched, AsKnown, Learns, looked, took, Hit, cleared, vacated, reclaimed, gave, Put, restored}
 use Rattle.up_bank.specs.declared.view.View.{View}
 use Rattle.up_bank.specs.declared.kind.FrameKind.{FrameKind}
 use Rattle.up_bank.proofs.Lists.{extends_none, bit_of, OthersStay, clear_stays, clear_here, set_stays, set_one, one_mask, homes_else, home_here, empties_apart, empties_else, empty_here, homes_apart}
@@ -101,9 +101,9 @@ module _ (frames id k : ℕ) (me : Sat) (inside : k < frames) (acts : me.0.rests
     all = λ _. refl;
   }
 
-  miss_stays : bit_at found (k % 64) ≡ 0 → Banked frames record { words = left_over; homes = s.homes; views = set s.views id (saw me.0 (k / 64) found) }
-  miss_stays zero_bit = let same : SameHand me.0 (saw me.0 (k / 64) found) = record { has = refl; empty = refl; sole = refl; home = refl; gives = refl } in
-      stays frames id me.0 (saw me.0 (k / 64) found) s r at acts left_over (length-set s.words (k / 64 * 2) (bit_and found (mask_of k)))
+  miss_stays : bit_at found (k % 64) ≡ 0 → Banked frames record { words = left_over; homes = s.homes; views = set s.views id (fetched me.0 k found) }
+  miss_stays zero_bit = let same : SameHand me.0 (fetched me.0 k found) = record { has = refl; empty = refl; sole = refl; home = refl; gives = refl } in
+      stays frames id me.0 (fetched me.0 k found) s r at acts left_over (length-set s.words (k / 64 * 2) (bit_and found (mask_of k)))
       (λ q. dite (ℕ_discrete q k) (λ (e : q ≡ k). subst (λ (z : ℕ). home_bit left_over z ≡ home_bit s.words z) (sym e) (gone_now ∙ sym zero_bit))
       (λ other. homes_else s.words k (bit_and found (mask_of k)) there q (clear_stays found k) other))
       (λ q. empties_apart s.words k (bit_and found (mask_of k)) there q) same
@@ -119,16 +119,16 @@ clears frames slots id k me inside acts bare s r _ at _ = let was : ℕ = get_or
       r.home k inside one,
       moved frames id k me.0 (took me.0 k was r.gives) s r at (set s.words (k / 64 * 2) (bit_and was (mask_of k))) (set s.homes k none) r.gives (clear_moves frames id k me inside acts bare s r at one),
       λ q word mask. let same : q ≡ k = one_mask q k (sym word) (sym mask) in
-          subst (λ (z : ℕ). AsKnown me.0 (z / 64) was × (bit_at was (z % 64) ≡ 1 → Hit z me was m') × (bit_at was (z % 64) ≡ 0 → m' ≡ (saw me.0 (z / 64) was, me.1))) (sym same)
+          subst (λ (z : ℕ). AsKnown me.0 (z / 64) was × (bit_at was (z % 64) ≡ 1 → Hit z me was m') × (bit_at was (z % 64) ≡ 0 → m' ≡ (fetched me.0 z was, me.1))) (sym same)
           (known, (λ _. hit), (λ zero_bit. absurd (omega arith))),
     ))
-    (λ other. let zero_bit : bit_at was (k % 64) ≡ 0 = not_one was (k % 64) other in let m' : Sat = (saw me.0 (k / 64) was, me.1) in (
-      saw me.0 (k / 64) was,
+    (λ other. let zero_bit : bit_at was (k % 64) ≡ 0 = not_one was (k % 64) other in let m' : Sat = (fetched me.0 k was, me.1) in (
+      fetched me.0 k was,
       keeps,
       tt,
       miss_stays frames id k me inside acts bare s r at zero_bit,
       λ q word mask. let same : q ≡ k = one_mask q k (sym word) (sym mask) in
-          subst (λ (z : ℕ). AsKnown me.0 (z / 64) was × (bit_at was (z % 64) ≡ 1 → Hit z me was m') × (bit_at was (z % 64) ≡ 0 → m' ≡ (saw me.0 (z / 64) was, me.1))) (sym same)
+          subst (λ (z : ℕ). AsKnown me.0 (z / 64) was × (bit_at was (z % 64) ≡ 1 → Hit z me was m') × (bit_at was (z % 64) ≡ 0 → m' ≡ (fetched me.0 z was, me.1))) (sym same)
           (known, (λ one. absurd (other one)), (λ _. refl)),
     ))
 

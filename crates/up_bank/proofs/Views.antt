@@ -11,7 +11,7 @@ use Rattle.up_bank.specs.Bytes.{Given, Extends, longer}
 use Rattle.up_bank.specs.Plays.{shed, framed, parted, second, united, merged, spent}
 use Rattle.up_bank.specs.Banked.{Vault, home_bit, Has, Alone, Banked}
 use Rattle.up_bank.specs.declared.view.View.{View}
-use Rattle.up_bank.proofs.Lists.{within, at_yes, at_no, at_end, put, put_here, put_else}
+use Rattle.up_bank.proofs.Lists.{within, at_yes, at_no, at_end}
 use Rattle.up_bank.proofs.Moves.{nobody_sole}
 
 -- a view cut in two: what it had goes to the second

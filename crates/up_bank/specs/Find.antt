@@ -1,11 +1,25 @@
 -- What a look at the bitmap of home frames finds.
-use Rattle.std.specs.Prelude.{◌≡◌, ℕ, ◌+◌, ◌-◌, ◌*◌, ◌/◌, ◌%◌, ◌<◌, zero, suc, min, List, [], ◌∷◌, ◌++◌, length, map, Any, slice_index}
+use Rattle.std.specs.Prelude.{◌≡◌, ℕ, ◌+◌, ◌-◌, ◌*◌, ◌/◌, ◌%◌, ◌<◌, ◌≤◌, zero, suc, min, List, [], ◌∷◌, ◌++◌, length, map, filter, filter_map, Any, slice_index, Option, is_none}
 use Rattle.std.specs.Int.{bit_at}
 
--- the number of a word of the bitmap, and what it was; it has 64 frames, the first in its lowest bit
+-- the number of a word of the bitmap, what it was, and the frame whose bit a fetch was for, none for a load; a word has 64 frames, the first in its lowest bit
 pub record Find : Type 0 where
   pub word : ℕ
   pub was : ℕ
+  pub tried : Option ℕ
+
+-- the words that were loaded, in order
+abbrev pub looks : List Find → List ℕ
+looks finds = map (λ f. f.word) (filter (λ f. is_none f.tried) finds)
+
+-- the frames that were tried, in order
+abbrev pub tries : List Find → List ℕ
+tries finds = filter_map (λ f. f.tried) finds
+
+-- the numbers rise strictly, from low on and below high
+abbrev pub Rising : ℕ → ℕ → List ℕ → Type 0
+Rising low high [] = low ≤ high
+Rising low high (n ∷ ns) = (low ≤ n) × Rising (suc n) high ns
 
 -- the find has this frame at home
 abbrev pub HasHome : ℕ → Find → Type 0
@@ -42,10 +56,19 @@ pub record FoundOut (before after : List Find) (number : ℕ) : Type 0 where
   pub is : after ≡ before ++ find ∷ []
   pub out : HasOut number find
 
--- the finds that were added have each of so many frames out
+-- of a bank of so many frames, the finds that were added load no word twice and try no frame twice: both rise
+pub record NoneTwice (before after : List Find) (frames : ℕ) : Type 0 where
+  pub more : List Find
+  pub is : after ≡ before ++ more
+  pub loads : Rising 0 (words_of frames) (looks more)
+  pub fetches : Rising 0 frames (tries more)
+
+-- the finds that were added loaded each word once, in order, and have each of so many frames out
 pub record Scanned (before after : List Find) (frames : ℕ) : Type 0 where
   pub more : List Find
   pub is : after ≡ before ++ more
+  pub one_each : length (looks more) ≡ words_of frames
+  pub in_order : (i : ℕ) → i < length (looks more) → slice_index (looks more) i ≡ i
   pub each : (number : ℕ) → number < frames → Any (HasOut number) more
 
 -- one find was added for each word, in order, and they have so many frames at home

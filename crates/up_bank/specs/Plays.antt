@@ -19,9 +19,13 @@ Stepped = Step Slot
 abbrev pub mask_of : ℕ → ℕ
 mask_of number = bit_not w64 (1 * 2 ^ (number % 64) % 2 ^ 64)
 
--- one find more
+-- one find more, of a load
 abbrev pub saw : View → ℕ → ℕ → View
-saw v word was = record v { finds = v.finds ++ record { word = word; was = was } ∷ [] }
+saw v word was = record v { finds = v.finds ++ record { word = word; was = was; tried = None } ∷ [] }
+
+-- one find more, of a fetch for this frame
+abbrev pub fetched : View → ℕ → ℕ → View
+fetched v number was = record v { finds = v.finds ++ record { word = number / 64; was = was; tried = Some number } ∷ [] }
 
 -- where the seat is sole, the word is what it knows of its frames
 abbrev pub AsKnown : View → ℕ → ℕ → Type 0
@@ -37,7 +41,7 @@ looked st m was m' = (word : ℕ) → st.word ≡ word * 2 → (m' ≡ (saw m.0 
 
 -- the seat has the frame, whose bytes are those of its last return
 abbrev pub took : View → ℕ → ℕ → List Given → View
-took v number was gives = record (saw v (number / 64) was) { has = suc number; empty = 0; home = slice_set v.home number 0; gives = gives }
+took v number was gives = record (fetched v number was) { has = suc number; empty = 0; home = slice_set v.home number 0; gives = gives }
 
 pub record Hit (number : ℕ) (m : Sat) (was : ℕ) (m' : Sat) : Type 0 where
   pub gives : List Given
@@ -46,7 +50,7 @@ pub record Hit (number : ℕ) (m : Sat) (was : ℕ) (m' : Sat) : Type 0 where
 
 abbrev pub cleared : Stepped → Sat → ℕ → Sat → Type 0
 cleared st m was m' = (number : ℕ) → st.word ≡ number / 64 * 2 → st.first ≡ mask_of number
-    → AsKnown m.0 (number / 64) was × (bit_at was (number % 64) ≡ 1 → Hit number m was m') × (bit_at was (number % 64) ≡ 0 → m' ≡ (saw m.0 (number / 64) was, m.1))
+    → AsKnown m.0 (number / 64) was × (bit_at was (number % 64) ≡ 1 → Hit number m was m') × (bit_at was (number % 64) ≡ 0 → m' ≡ (fetched m.0 number was, m.1))
 
 abbrev pub vacated : Stepped → Sat → ℕ → Sat → Type 0
 vacated st m was m' = m' ≡ (record m.0 { empty = 1 }, rest m.1)
@@ -56,7 +60,7 @@ reclaimed st m was m' = (number : ℕ) → m.0.has ≡ suc number → m' ≡ (re
 
 -- the seat brought the frame home with these bytes
 abbrev pub gave : View → ℕ → ℕ → List ℕ → List Given → View
-gave v number was bytes gives = record (saw v (number / 64) was) { has = 0; empty = 0; home = slice_set v.home number 1; gives = record { number = number; bytes = bytes } ∷ gives }
+gave v number was bytes gives = record (fetched v number was) { has = 0; empty = 0; home = slice_set v.home number 1; gives = record { number = number; bytes = bytes } ∷ gives }
 
 pub record Put (number : ℕ) (bytes : List ℕ) (m : Sat) (was : ℕ) (m' : Sat) : Type 0 where
   pub gives : List Given

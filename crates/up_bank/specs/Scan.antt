@@ -1,8 +1,8 @@
 -- What the functions on a bank's table say of a seat's view, within the crate.
-use Rattle.std.specs.Prelude.{◌≡◌, ℕ, ◌+◌, ◌-◌, ◌*◌, ◌/◌, ◌%◌, ◌<◌, ◌≤◌, true, false, List, [], ◌∷◌, ◌++◌, length, slice_index, slice_set, min, Any, sum, take, map}
+use Rattle.std.specs.Prelude.{◌≡◌, ℕ, ◌+◌, ◌-◌, ◌*◌, ◌/◌, ◌%◌, ◌<◌, true, false, List, [], ◌∷◌, ◌++◌, length, slice_index, slice_set, min, Any, sum, take, map}
 use Rattle.std.specs.Int.{bit_at}
 use Rattle.up_bank.specs.Bytes.{Given, bytes_of}
-use Rattle.up_bank.specs.Find.{Find, HasOut, HasHome, homes_in}
+use Rattle.up_bank.specs.Find.{Find, looks, tries, Rising, HasOut, HasHome, homes_in}
 use Rattle.up_bank.specs.Standing.{BankId, Held, frames_of}
 use Rattle.up_bank.specs.Plays.{Sat, Learns}
 use Rattle.up_bank.specs.declared.view.View.{View}
@@ -23,21 +23,26 @@ pub record Gone (v : View) (more : List Find) (number : ℕ) : Type 0 where
 abbrev pub claimed : View → ℕ → List Find → List Given → View
 claimed v number more gives = record v { has = 0; empty = 0; home = slice_set v.home number 0; finds = v.finds ++ more; gives = gives }
 
--- a claim of the frame, by these finds and with these bytes
-pub record Claimed (v : View) (m' : Sat) (number : ℕ) (bytes : List ℕ) (most : ℕ) : Type 0 where
+-- finds that load rising words and try rising frames, from some on and below others
+pub record Orderly (word words from to : ℕ) (more : List Find) : Type 0 where
+  pub loads : Rising word words (looks more)
+  pub fetches : Rising from to (tries more)
+
+-- a claim of the frame, by such finds and with these bytes
+pub record Claimed (v : View) (m' : Sat) (number : ℕ) (bytes : List ℕ) (word words from to : ℕ) : Type 0 where
   pub others : List Find
   pub last : Find
   pub gives : List Given
   pub home : HasHome number last
-  pub few : length others < most
+  pub orderly : Orderly word words from to (others ++ last ∷ [])
   pub known : v.sole ≡ true → number < length v.home → slice_index v.home number ≡ 1
   pub learns : Learns v gives
   pub bytes_are : bytes ≡ bytes_of gives number
   pub is : m' ≡ (claimed v number (others ++ last ∷ []) gives, [])
 
 -- a claim of some frame of the bank
-abbrev pub Got : BankId → View → Sat → ℕ → Held → Type 0
-Got bank v m' most frame = (frame.bank ≡ bank) × (frame.number < frames_of bank) × Claimed v m' frame.number frame.bytes most
+abbrev pub Got : BankId → View → Sat → ℕ → ℕ → ℕ → ℕ → Held → Type 0
+Got bank v m' word words from to frame = (frame.bank ≡ bank) × (frame.number < frames_of bank) × Claimed v m' frame.number frame.bytes word words from to
 
 -- how many frames a word of the bitmap has
 abbrev pub frames_in : BankId → ℕ → ℕ
@@ -51,17 +56,19 @@ IsIn bank word number = (number / 64 ≡ word) × (number < frames_of bank)
 abbrev pub with_finds : View → List Find → View
 with_finds v more = record v { finds = v.finds ++ more }
 
--- finds that have each of some frames out, and are so few
-pub record Missed (v : View) (m' : Sat) (most : ℕ) (frames : ℕ → Type 0) : Type 0 where
+-- such finds that load all these words, and have each of some frames out
+pub record Missed (v : View) (m' : Sat) (word words from to : ℕ) (frames : ℕ → Type 0) : Type 0 where
   pub more : List Find
-  pub few : length more ≤ most
+  pub orderly : Orderly word words from to more
+  pub all : word + length (looks more) ≡ words
   pub each : (number : ℕ) → frames number → Gone v more number
   pub is : m' ≡ (with_finds v more, [])
 
 -- a claim as far as some bits of one word: the frames before that bit are out, and so is each whose bit isn't left
 pub record Scanning (v : View) (m' : Sat) (word bit left : ℕ) : Type 0 where
   pub more : List Find
-  pub few : length more ≤ bit + 1
+  pub orderly : Orderly word (word + 1) (word * 64) (word * 64 + bit) more
+  pub one : length (looks more) ≡ 1
   pub done : (number : ℕ) → number / 64 ≡ word → number % 64 < bit → Gone v more number
   pub hint : (number : ℕ) → number / 64 ≡ word → bit_at left (number % 64) ≡ 0 → Gone v more number
   pub is : m' ≡ (with_finds v more, [])

@@ -1,6 +1,6 @@
 ghost use Rattle.std.specs.Prelude.{◌≡◌, ◌+◌, ◌<◌, ◌≤◌, [], ◌∷◌, true, false, length, replicate, slice_index, slice_set, sum, IsTrue, IfOk, IfErr, Some};
 ghost use Rattle.up_bank.specs.Bytes.{Extends, Brings, bytes_of, longer};
-ghost use Rattle.up_bank.specs.Find.{FoundHome, FoundOut, Scanned, Counted, words_of};
+ghost use Rattle.up_bank.specs.Find.{FoundHome, FoundOut, NoneTwice, Scanned, Counted, words_of};
 ghost use Rattle.up_bank.specs.Standing.{first_seat, second_seat, frames_of, most_frames};
 
 use crate::frame::Frame;
@@ -87,6 +87,7 @@ impl Bank {
     pub fn claim(&self, seat: &mut BankSeat) -> Result<Frame, Scan>
         requires { seat.old.bank ≡ self.now }
         ensures seat { (seat.new.bank ≡ seat.old.bank) × (seat.new.sole ≡ seat.old.sole) }
+        ensures once { NoneTwice seat.old.finds seat.new.finds (frames_of self.now) }
         ensures few { length seat.new.finds ≤ length seat.old.finds + (frames_of self.now + words_of (frames_of self.now)) }
         ensures gives { Extends seat.old.gives seat.new.gives }
         ensures frame { IfOk result (λ frame. (frame.bank ≡ self.now) × (frame.number < frames_of self.now)) }

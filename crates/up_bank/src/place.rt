@@ -6,7 +6,7 @@ ghost use Rattle.up_bank.specs.Bytes.{zero_bytes};
 ghost use Rattle.up_bank.specs.Banked.{newcomer};
 ghost use Rattle.up_bank.specs.Find.{words_of, bits_set};
 ghost use Rattle.up_bank.specs.Standing.{frames_of};
-ghost use Rattle.up_bank.specs.Plays.{AsKnown, saw, Put};
+ghost use Rattle.up_bank.specs.Plays.{AsKnown, saw, fetched, Put};
 ghost use Rattle.up_bank.specs.Scan.{Idle, Claimed, Got, IsIn, Missed, Counting, frames_in};
 
 use crate::bank::Bank;
@@ -97,8 +97,8 @@ impl Bank {
         ensures same { place.new.table_id ≡ place.old.table_id }
         ensures known { AsKnown place.old.me.0 (number / 64) result.0 }
         ensures got { MatchOption result.1
-            ((bit_at result.0 (number % 64) ≡ 0) × (place.new.me ≡ (saw place.old.me.0 (number / 64) result.0, [])))
-            (λ frame. (frame.bank ≡ self.now) × (frame.number ≡ number) × Claimed place.old.me.0 place.new.me number frame.bytes 1) }
+            ((bit_at result.0 (number % 64) ≡ 0) × (place.new.me ≡ (fetched place.old.me.0 number result.0, [])))
+            (λ frame. (frame.bank ≡ self.now) × (frame.number ≡ number) × Claimed place.old.me.0 place.new.me number frame.bytes (number / 64 + 1) (number / 64 + 1) number (number + 1)) }
     {
         let shape = &self.shape;
         let bit = number % 64;
@@ -132,8 +132,8 @@ impl Bank {
         requires within { word < words_of self.now.table.slots }
         requires idle { Idle place.old.me }
         ensures same { place.new.table_id ≡ place.old.table_id }
-        ensures got { let most = frames_in self.now word + 1 in
-            MatchOption result (Missed place.old.me.0 place.new.me most (IsIn self.now word)) (Got self.now place.old.me.0 place.new.me most) }
+        ensures got { let from = word * 64 in let to = from + frames_in self.now word in
+            MatchOption result (Missed place.old.me.0 place.new.me word (word + 1) from to (IsIn self.now word)) (Got self.now place.old.me.0 place.new.me word (word + 1) from to) }
     {
         let frames = self.shape.frames;
         let first = word * 64;
@@ -162,8 +162,8 @@ impl Bank {
         requires kind { place.old.me.0.kind ≡ self.now.kind }
         requires idle { Idle place.old.me }
         ensures same { place.new.table_id ≡ place.old.table_id }
-        ensures got { let frames = frames_of self.now in let most = frames + words_of frames in
-            MatchOption result (Missed place.old.me.0 place.new.me most (λ number. number < frames)) (Got self.now place.old.me.0 place.new.me most) }
+        ensures got { let frames = frames_of self.now in let words = words_of frames in
+            MatchOption result (Missed place.old.me.0 place.new.me 0 words 0 frames (λ number. number < frames)) (Got self.now place.old.me.0 place.new.me 0 words 0 frames) }
     {
         let frames = self.shape.frames;
         for word in 0..(frames + 63) / 64 {

@@ -1,4 +1,4 @@
-use Rattle.std.proofs.Common.{◌≡◌, ◌<◌, length, arith}
+use Rattle.std.proofs.Common.{arith}
 use Rattle.pagerd.proofs.Staging.{get_is, able_at}
 use Rattle.pagerd.proofs.steps.born.Goals as goal
 
