@@ -14,7 +14,7 @@ pub use laws::{byte_lists_are_runs, numbers_are_decimal, words_join_to_their_lin
 pub use names::spells_name;
 pub use numbers::{parse_number, read_between};
 pub use runs::{Run, Runs, TOO_MANY, read_bytes, read_runs, spread_runs};
-pub use words::{Words, front, read_words};
+pub use words::{Words, front, parts, read_words};
 
 #[cfg(test)]
 mod tests;

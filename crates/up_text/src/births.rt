@@ -1,0 +1,81 @@
+ghost use Rattle.std.specs.Prelude.{◌≡◌};
+ghost use Rattle.up_words.specs.Steps.{Gives};
+ghost use Rattle.up_text.specs.Reading.{birth_in, has_name, journal_line, limit_in};
+
+use crate::fields::{SIZES, read_count, read_flag};
+use crate::journals::Named;
+use crate::stage::{Part, Stage};
+use std::alloc::Global;
+use up_journal::Birth;
+use up_num::Items;
+use up_words::{Stop, Why, Words, read_between, spells_name};
+
+/// How many journals a text has at most.
+const JOURNALS: usize = 16;
+/// How many users or pagers an object has at most.
+const ACTORS: u64 = 64;
+
+fn knows(journals: &[Named], name: &[u8]) -> bool
+    ensures { result ≡ has_name journals.now name.now }
+{
+    let mut rest = journals;
+    while let [journal, after @ ..] = rest {
+        if journal.name.as_slice() == name {
+            return true;
+        }
+        rest = after;
+    }
+    false
+}
+
+fn read_limit(pages: u32, word: &[u8]) -> Result<Option<u32>, Stop>
+    ensures { Gives (λ limit. limit) result (limit_in pages word.now) }
+{
+    if word == b"-".as_slice() {
+        return Ok(None);
+    }
+    let most = read_between(u64::from(pages), u64::from(SIZES), word)?;
+    Ok(Some(most as u32))
+}
+
+fn read_birth(words: &Words<'_>, trap: bool, image: bool) -> Result<Birth, Stop>
+    ensures { Gives (λ birth. birth) result (birth_in words.now trap image) }
+{
+    let pages = read_count(SIZES, words.at(2))?;
+    let limit = read_limit(pages, words.at(3))?;
+    let users = read_between(1, ACTORS, words.at(5))?;
+    let pagers = read_between(1, ACTORS, words.at(6))?;
+    Ok(Birth {
+        pages,
+        limit,
+        trap,
+        users: users as u32,
+        pagers: pagers as u32,
+        image,
+    })
+}
+
+/// The line that begins a journal.
+pub fn read_journal_line(alloc: Global, part: Part, words: &Words<'_>) -> Result<Stage, Stop>
+    ensures { Gives (λ next. next) result (journal_line part words.now) }
+{
+    let trap = read_flag(b"trap", b"free", words.at(4))?;
+    let image = read_flag(b"image", b"-", words.at(7))?;
+    let name = words.at(1);
+    if !spells_name(name) || knows(part.journals.as_slice(), name) {
+        return Err(Stop::Found(Why::Name));
+    }
+    let birth = read_birth(words, trap, image)?;
+    if part.journals.len() >= JOURNALS {
+        return Err(Stop::Found(Why::Limit));
+    }
+    let name = Items::from_slice(alloc, name)?;
+    Ok(Stage::Within(
+        part,
+        Named {
+            name,
+            birth,
+            entries: Items::new(alloc),
+        },
+    ))
+}

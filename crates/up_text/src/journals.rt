@@ -1,0 +1,13 @@
+use up_journal::{Birth, Entries};
+use up_num::{Bytes, Items};
+
+/// The journals of some objects, in order.
+pub type Journals = Items<Named>;
+
+/// The journal of an object, oldest entry first, with the object's name and what it was born with.
+#[derive(Debug, Drop)]
+pub struct Named {
+    pub name: Bytes,
+    pub birth: Birth,
+    pub entries: Entries,
+}

@@ -1,0 +1,168 @@
+ghost use Rattle.std.specs.Prelude.{◌≡◌, ◌≤◌, IfOk, List, Ok, length, true};
+ghost use Rattle.up_words.specs.Steps.{Gives, GivesText, at_line};
+ghost use Rattle.up_words.specs.Words.{split};
+ghost use Rattle.up_text.specs.Limits.{longest_text};
+ghost use Rattle.up_text.specs.Text.{text};
+ghost use Rattle.up_text.specs.Allowed.{are_within};
+ghost use Rattle.up_text.specs.declared.journals.Named.{Named};
+ghost use Rattle.up_text.specs.Reading.{between_line, end_line, ended, journals_of, last_step, line_step, lines_of, within_line};
+
+use crate::births::read_journal_line;
+use crate::entries::read_entry_line;
+use crate::fields::TICKETS;
+use crate::journals::{Journals, Named};
+use crate::stage::{Part, Stage};
+use std::alloc::Global;
+use up_num::Items;
+use up_words::{ReadFault, Stop, Why, Words, front, read_between, read_words};
+
+/// The greatest length of a text.
+const TEXT: usize = 67_108_864;
+
+fn read_end_line(part: Part, current: Named, words: &Words<'_>) -> Result<Stage, Stop>
+    ensures { Gives (λ next. next) result (end_line part current words.now) }
+{
+    if words.len() != 2 {
+        return Err(Stop::Found(Why::Word));
+    }
+    let count = read_between(0, TICKETS, words.at(1))?;
+    if count != current.entries.len() as u64 {
+        return Err(Stop::Found(Why::Order));
+    }
+    let Part {
+        mut journals,
+        bytes,
+    } = part;
+    journals.push(current)?;
+    Ok(Stage::Between(Part { journals, bytes }))
+}
+
+fn read_between_line(alloc: Global, part: Part, words: &Words<'_>) -> Result<Stage, Stop>
+    ensures { Gives (λ next. next) result (between_line part words.now) }
+{
+    if words.has(0, b"done", 1) {
+        let Part { journals, bytes: _ } = part;
+        Ok(Stage::Ended(journals))
+    } else if words.has(0, b"journal", 8) {
+        read_journal_line(alloc, part, words)
+    } else {
+        Err(Stop::Found(Why::Word))
+    }
+}
+
+fn read_within_line(
+    alloc: Global,
+    part: Part,
+    current: Named,
+    words: &Words<'_>,
+) -> Result<Stage, Stop>
+    ensures { Gives (λ next. next) result (within_line part current words.now) }
+{
+    if words.reads(0, b"end") {
+        read_end_line(part, current, words)
+    } else {
+        read_entry_line(alloc, part, current, words)
+    }
+}
+
+fn read_header(alloc: Global, line: &[u8]) -> Result<Stage, Stop>
+    ensures { Gives (λ next. next) result (line_step Stage.Header line.now) }
+{
+    if line != b"pagerd-journal 1".as_slice() {
+        return Err(Stop::Found(Why::Header));
+    }
+    Ok(Stage::Between(Part {
+        journals: Items::new(alloc),
+        bytes: 0,
+    }))
+}
+
+fn read_line(alloc: Global, stage: Stage, line: &[u8]) -> Result<Stage, Stop>
+    ensures { Gives (λ next. next) result (line_step stage line.now) }
+{
+    match stage {
+        Stage::Header => read_header(alloc, line),
+        Stage::Between(part) => {
+            let words = read_words(alloc, line)?;
+            read_between_line(alloc, part, &words)
+        }
+        Stage::Within(part, current) => {
+            let words = read_words(alloc, line)?;
+            read_within_line(alloc, part, current, &words)
+        }
+        Stage::Ended(_) => Err(Stop::Found(Why::Word)),
+    }
+}
+
+fn finish(stage: Stage) -> Result<Journals, Stop>
+    ensures { Gives (λ journals. journals) result (ended stage) }
+{
+    match stage {
+        Stage::Header => Err(Stop::Found(Why::Header)),
+        Stage::Ended(journals) => Ok(journals),
+        _ => Err(Stop::Found(Why::Cut)),
+    }
+}
+
+fn end(stage: Stage, rest: &[u8]) -> Result<Journals, Stop>
+    ensures { Gives (λ journals. journals) result (last_step stage rest.now) }
+{
+    if !rest.is_empty() {
+        return Err(Stop::Found(Why::Cut));
+    }
+    finish(stage)
+}
+
+fn end_at(number: u32, stage: Stage, rest: &[u8]) -> Result<Journals, ReadFault>
+    ensures { GivesText (λ journals. journals) result (at_line number (last_step stage rest.now)) }
+{
+    match end(stage, rest) {
+        Ok(journals) => Ok(journals),
+        Err(stop) => Err(stop.at(number)),
+    }
+}
+
+fn read_line_at(alloc: Global, number: u32, stage: Stage, line: &[u8]) -> Result<Stage, ReadFault>
+    ensures { GivesText (λ next. next) result (at_line number (line_step stage line.now)) }
+{
+    match read_line(alloc, stage, line) {
+        Ok(next) => Ok(next),
+        Err(stop) => Err(stop.at(number)),
+    }
+}
+
+fn read_lines(alloc: Global, text: &[u8]) -> Result<Journals, ReadFault>
+    requires { length text.now ≤ longest_text }
+    ensures { GivesText (λ journals. journals) result (lines_of 1 Stage.Header (split 10 text.now)) }
+{
+    let mut stage = Stage::Header;
+    let mut number: u32 = 1;
+    let mut rest = text;
+    loop {
+        let (line, after) = front(rest);
+        match after {
+            None => return end_at(number, stage, line),
+            Some(after) => {
+                stage = read_line_at(alloc, number, stage, line)?;
+                number += 1;
+                rest = after;
+            }
+        }
+    }
+}
+
+/// The journals that a text spells. A text outside the grammar or a limit is `Bad`, with its first faulty line and the
+/// first reason there.
+pub fn read_journals(alloc: Global, bytes: &[u8]) -> Result<Journals, ReadFault>
+    ensures exact { GivesText (λ journals. journals) result (journals_of bytes.now) }
+    ensures found { (journals : List Named) → are_within journals ≡ true → bytes.now ≡ text journals → GivesText (λ journals. journals) result (Ok journals) }
+    ensures sound { IfOk result (λ journals. (bytes.now ≡ text journals) × (are_within journals ≡ true)) }
+{
+    if TEXT < bytes.len() {
+        return Err(ReadFault::Bad {
+            line: 0,
+            why: Why::Long,
+        });
+    }
+    read_lines(alloc, bytes)
+}
