@@ -2,4 +2,5 @@ pub mod Failing
 pub mod Staging
 pub mod Blocks
 pub mod Making
+pub mod Naming
 pub mod Endings

@@ -1,7 +1,6 @@
 -- What the top call does at each status.
 use Rattle.std.specs.Prelude.{◌≡◌, ℕ, ◌≤◌, List, [], ◌∷◌, Option, Some, None, Ok, Err, length, codes}
 use Rattle.std.specs.Io.KnownBytes.{Appends, Consumes, IsAtEnd}
-use Rattle.up_journal.specs.declared.entry.Entry.{Entry}
 use Rattle.up_outside.specs.Front.{AppendsFront}
 use Rattle.up_words.specs.declared.fault.Fault.{Fault}
 use Rattle.up_script.specs.Reading.{script_of}
@@ -11,17 +10,19 @@ use Rattle.pagerd.specs.declared.top.Answer.TheVariants.{Journals, Bad, Unbuilt}
 use Rattle.pagerd.specs.declared.top.Ended.{Ended}
 use Rattle.pagerd.specs.declared.top.Ended.TheVariants.{Written, Words, Unread, Source, Sink, Memory}
 use Rattle.pagerd.specs.Built.{unbuilt_line}
-use Rattle.pagerd.specs.Journals.{AreJournalsOf}
-use Rattle.pagerd.specs.Text.{journals_text, fault_text, why_text}
+use Rattle.pagerd.specs.Journals.{MakesJournals}
+use Rattle.pagerd.specs.Text.{fault_text, why_text}
+use Rattle.up_text.specs.Text.{text as journals_text}
+use Rattle.up_text.specs.declared.journals.Named.{Named}
 
 -- the bytes spell a script that is done today, and this is the text of its journals
 pub record Spells (bytes text : List ℕ) : Type 0 where
   pub script : Script
-  pub journals : List (List Entry)
+  pub journals : List Named
   pub spelled : script_of bytes ≡ Ok script
   pub built : unbuilt_line script ≡ None
-  pub made : AreJournalsOf script journals
-  pub printed : text ≡ journals_text script.objects journals
+  pub made : MakesJournals script journals
+  pub printed : text ≡ journals_text journals
 
 -- the bytes are outside the grammar or a limit of scripts, and this text tells their first fault
 pub record HasFault (bytes text : List ℕ) : Type 0 where

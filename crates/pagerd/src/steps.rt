@@ -1,4 +1,4 @@
-ghost use Rattle.std.specs.Prelude.{◌≡◌, ◌<◌, ◌≤◌, [], true, false, None, Some, length, replicate, slice_get, slice_index, vec_len, IfOk, OnOk, OnErr};
+ghost use Rattle.std.specs.Prelude.{◌≡◌, ◌<◌, ◌≤◌, ◌++◌, [], ◌∷◌, true, false, None, Some, length, replicate, slice_get, slice_index, vec_len, IfOk, OnOk, OnErr};
 ghost use Rattle.std.specs.Vec.{vec_capacity};
 ghost use Rattle.std.specs.List.{list_all};
 ghost use Rattle.up_journal.specs.declared.entry.Call.{Call as CallValue};
@@ -7,19 +7,65 @@ ghost use Rattle.up_journal.specs.Parked as waiting;
 ghost use Rattle.up_journal.specs.Reply as replies;
 ghost use Rattle.up_script.specs.Sound as sound;
 ghost use Rattle.pagerd.specs.Built as built;
-ghost use Rattle.pagerd.specs.Journals.{AreJournalsOf, AllLegal, new_lives, ends_of};
+ghost use Rattle.pagerd.specs.Journals.{AreJournalsOf, MakesJournals, named_from, name_one, AllLegal, new_lives, ends_of};
 ghost use Rattle.pagerd.specs.Steps as steps;
 ghost use Rattle.pagerd.specs.Stage.{Acted, Passed, Began, WentOn, Did, GoneThrough};
 
 use std::alloc::Global;
 use std::marker::Model;
 use up_journal::{Call, Entries, Reply};
-use up_num::{Memory, PageNo, Piece};
+use up_num::{Items, Memory, PageNo, Piece};
 use up_script::{Action, Line, ObjectLine, Script};
 use up_state::{Object, packet, retry, supply, touch};
+use up_text::{Journals, Named};
 
 /// Does a script's lines in file order, each as far as its actor comes, and gives the journals of its objects in their order.
-pub fn journals_of(alloc: Global, script: &Script) -> Result<Vec<Entries>, Memory>
+pub fn journals_of(alloc: Global, script: &Script) -> Result<Journals, Memory>
+    requires sound { sound.is_sound script.now ≡ true }
+    requires built { built.unbuilt_line script.now ≡ None }
+    ensures { IfOk result (λ journals. MakesJournals script.now journals) }
+{
+    let ended = play(alloc, script)?;
+    name_all(alloc, script.objects.as_slice(), ended)
+}
+
+/// Gives each journal its object's name and birth.
+fn name_all(alloc: Global, objects: &[ObjectLine], ended: Vec<Entries>) -> Result<Journals, Memory>
+    ensures { IfOk result (λ journals. journals ≡ named_from objects.now ended.items) }
+{
+    let mut journals = Items::new(alloc);
+    for entries in ended {
+        let at = journals.len();
+        if at < objects.len() {
+            journals = add_named(alloc, journals, &objects[at], entries)?;
+        }
+    }
+    Ok(journals)
+}
+
+fn add_named(
+    alloc: Global,
+    journals: Journals,
+    object: &ObjectLine,
+    entries: Entries,
+) -> Result<Journals, Memory>
+    ensures { IfOk result (λ more. more ≡ journals ++ name_one object.now entries ∷ []) }
+{
+    let name = object.name.copy(alloc)?;
+    let mut more = journals;
+    let journal = Named {
+        name,
+        birth: object.birth,
+        entries,
+    };
+    match more.push(journal) {
+        Ok(()) => Ok(more),
+        Err(_) => Err(Memory {}),
+    }
+}
+
+/// Does a script's lines, and gives the journals of its objects.
+fn play(alloc: Global, script: &Script) -> Result<Vec<Entries>, Memory>
     requires sound { sound.is_sound script.now ≡ true }
     requires built { built.unbuilt_line script.now ≡ None }
     ensures { IfOk result (λ journals. AreJournalsOf script.now journals.items) }

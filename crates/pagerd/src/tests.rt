@@ -2,7 +2,10 @@ use crate::top::alone;
 use std::alloc::Global;
 use std::process::Abort;
 use std::test::Fail;
+use up_journal::{Birth, Brought, Call, Entry, Reply};
+use up_num::{Packet, PageNo, PageRange, Piece};
 use up_outside::{MemSink, MemSource, PlainSource};
+use up_text::{Journals, read_journals};
 
 /// The lines before the action lines.
 const HEAD: &str =
@@ -42,6 +45,108 @@ fn the_first_script_prints_its_journal(rt: HostRuntime) -> Result<(), Fail> {
     let status = alone(alloc, step_words(alloc)?.as_slice(), &mut source, &mut sink);
     assert_eq!(rt; status, 0);
     assert!(rt; sink.written() == FIRST_JOURNAL.as_bytes());
+    Ok(())
+}
+
+/// What the first script's output is read as.
+fn first_journals(alloc: Global) -> Result<Journals, Fail> {
+    let script = format!(in alloc; "{HEAD}{FIRST}")?;
+    let mut source = PlainSource::new(alloc, script.as_bytes())?;
+    let mut sink = MemSink::new(alloc, &[], 100_000)?;
+    alone(alloc, step_words(alloc)?.as_slice(), &mut source, &mut sink);
+    let journals = read_journals(alloc, sink.written()).ok();
+    Ok(journals.ok_or("the output is a journal text")?)
+}
+
+/// The entry at a place of the one journal.
+fn entry_at(journals: &Journals, at: usize) -> Result<&Entry, Fail> {
+    let [journal] = journals.as_slice() else {
+        return Err("there is one journal")?;
+    };
+    Ok(journal.entries.as_slice().get(at).ok_or("an entry")?)
+}
+
+#[test]
+fn the_first_output_is_read_as_its_journal(rt: HostRuntime) -> Result<(), Fail> {
+    let journals = first_journals(rt.alloc())?;
+    assert_eq!(rt; journals.len(), 1);
+    let journal = journals.at(0);
+    assert_eq!(rt; journal.name.as_slice(), b"a".as_slice());
+    let birth = Birth {
+        pages: 1,
+        limit: None,
+        trap: false,
+        users: 2,
+        pagers: 1,
+        image: false,
+    };
+    assert_eq!(rt; journal.birth, birth);
+    assert_eq!(rt; journal.entries.len(), 4);
+    for (at, who) in [0, 2, 2, 0].into_iter().enumerate() {
+        let entry = entry_at(&journals, at)?;
+        assert_eq!(rt; (entry.who, entry.epoch), (who, 0));
+    }
+    Ok(())
+}
+
+#[test]
+fn the_first_output_is_read_as_its_calls(rt: HostRuntime) -> Result<(), Fail> {
+    let journals = first_journals(rt.alloc())?;
+    let none = Brought::Nothing;
+    let page = PageRange { first: 0, count: 1 };
+    let Call::Read {
+        piece,
+        last,
+        brought,
+    } = &entry_at(&journals, 0)?.call
+    else {
+        return Err("the first call is a read")?;
+    };
+    assert_eq!(rt;
+        (*piece, *last, *brought),
+        (Piece { off: 0, len: 1 }, PageNo(0), none)
+    );
+    assert!(rt; matches!(entry_at(&journals, 1)?.call, Call::Packet));
+    let Call::Supply {
+        range,
+        bytes,
+        brought,
+    } = &entry_at(&journals, 2)?.call
+    else {
+        return Err("the third call is a supply")?;
+    };
+    assert_eq!(rt; (*range, *brought), (page, Brought::Frames(1)));
+    assert_eq!(rt; bytes.len(), 4096);
+    assert!(rt; bytes.as_slice().iter().all(|byte| *byte == b'a'));
+    assert!(rt;
+        matches!(
+            entry_at(&journals, 3)?.call,
+            Call::Retry {
+                ticket: 0,
+                brought: Brought::Nothing
+            }
+        )
+    );
+    Ok(())
+}
+
+#[test]
+fn the_first_output_is_read_as_its_replies(rt: HostRuntime) -> Result<(), Fail> {
+    let journals = first_journals(rt.alloc())?;
+    assert!(rt; matches!(entry_at(&journals, 0)?.reply, Reply::Blocked(0)));
+    let Reply::Packet(packet) = &entry_at(&journals, 1)?.reply else {
+        return Err("the second reply is a packet")?;
+    };
+    assert_eq!(rt; *packet, Packet::Read(PageRange { first: 0, count: 1 }));
+    let Reply::Took { pages, woke } = &entry_at(&journals, 2)?.reply else {
+        return Err("the third reply is that of a supply")?;
+    };
+    assert_eq!(rt; *pages, 1);
+    assert_eq!(rt; woke.as_slice(), [0].as_slice());
+    let Reply::Bytes(bytes) = &entry_at(&journals, 3)?.reply else {
+        return Err("the last reply has the byte")?;
+    };
+    assert_eq!(rt; bytes.as_slice(), b"a".as_slice());
     Ok(())
 }
 

@@ -4,11 +4,12 @@ ghost use Rattle.pagerd.specs.Top.{IsStep, IsSaid, IsAnswer, IsScript, Took, Too
 
 use crate::built::find_unbuilt;
 use crate::steps::journals_of;
-use crate::text::{fault_at, why_word, write_journals};
+use crate::text::{fault_at, why_word};
 use std::alloc::Global;
 use up_num::Memory;
 use up_outside::{ReadStop, Sink, Source, push_all, read_to};
 use up_script::{ReadFault, read_script};
+use up_text::write_journals;
 
 /// The greatest length of a script's text.
 const TEXT: usize = 4_194_304;
@@ -163,6 +164,6 @@ fn answer_to(alloc: Global, bytes: &[u8]) -> Result<Answer, Memory>
     }
     let journals = journals_of(alloc, &script)?;
     let mut text = Vec::new(alloc);
-    write_journals(script.objects.as_slice(), journals.as_slice(), &mut text)?;
+    write_journals(&journals, &mut text)?;
     Ok(Answer::Journals(text))
 }

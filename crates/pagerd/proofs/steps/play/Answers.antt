@@ -7,7 +7,7 @@ use Rattle.pagerd.specs.Built.{are_able}
 use Rattle.pagerd.specs.Journals.{AreJournalsOf, ends_of, new_life, new_lives}
 use Rattle.pagerd.specs.Stage.{Staged, GoneThrough}
 use Rattle.pagerd.proofs.Making.{able_objects, able_lines, journals_are}
-use Rattle.pagerd.proofs.steps.journals_of.Goals as goal
+use Rattle.pagerd.proofs.steps.play.Goals as goal
 
 pub new-requires : goal.new-requires
 new-requires c = rw c.as_slice.ensures (able_objects c.args.script.now c.requires.sound c.requires.built)
