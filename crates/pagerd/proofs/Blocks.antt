@@ -2,9 +2,9 @@
 use Rattle.std.proofs.Common.{◌≡◌, ℕ, ◌+◌, ◌<◌, ◌≤◌, ◌==◌, ◌&&◌, Bool, true, false, cond, Option, Some, None, MatchOption, is_some, IsSome, List, [], ◌∷◌, length, map, take, zero, suc, slice_get, slice_index, slice_set, refl, ap, sym, ◌∙◌, subst, inl, inr, arith}
 use Rattle.std.proofs.Common.{length-set, get_or-set_same, get_or-set_other}
 use Rattle.std.specs.Bool.{MatchBool}
-use Rattle.up_journal.specs.Legal.{Life, after}
-use Rattle.up_journal.specs.Parked.{retried}
-use Rattle.up_journal.proofs.Bools.{and_left, and_right, not_true, nat_eq_true, nat_eq-same, differ}
+use Rattle.up_model.specs.Legal.{Life, after}
+use Rattle.up_model.specs.Parked.{retried}
+use Rattle.up_model.proofs.Bools.{and_left, and_right, not_true, nat_eq_true, nat_eq-same, differ}
 use Rattle.up_script.specs.declared.script.Line.{Line}
 use Rattle.pagerd.specs.Built.{is_built_action, is_able_line, are_able}
 use Rattle.pagerd.specs.Steps.{Entered, Aimed, is_go, acts, call_of, aim_of, calls_of, parks, begun, retry_of, parked_to_retry, LineBegins, Block, LineDone, Steps}

@@ -1,47 +1,93 @@
 -- The statuses of all endings.
-use Rattle.std.proofs.Common.{◌≡◌, ℕ, ◌+◌, ◌<◌, ◌≤◌, ◌++◌, ◌⊎◌, inl, inr, nat_le, length-append, true, false, Option, Some, None, Result, Ok, Err, Bool, IsTrue, List, [], ◌∷◌, length, get_or, refl, ap, sym, ◌∙◌, arith, lit<}
+use Rattle.std.proofs.Common.{◌≡◌, ℕ, ◌+◌, ◌<◌, ◌≤◌, ◌++◌, ◌⊎◌, inl, inr, nat_le, length-append, true, false, Option, Some, None, Result, Ok, Err, Bool, IsTrue, List, [], ◌∷◌, length, get_or, refl, ap, sym, subst, ◌∙◌, arith, lit<}
+use mathlib.Core.Bool.{true≢false}
 use Rattle.std.specs.Str.{bytes_eq}
 use Rattle.std.proofs.lemmas.Bool.Decides.{nat_tests}
 use Rattle.std.proofs.lemmas.List.{append-nil}
 use Rattle.up_words.specs.declared.fault.Fault.{Fault}
 use Rattle.up_script.specs.Reading.{script_of}
 use Rattle.up_script.specs.declared.script.Script.{Script}
+use Rattle.up_text.specs.Limits.{longest_text}
+use Rattle.up_text.specs.Reading.{journals_of}
+use Rattle.up_text.specs.declared.journals.Named.{Named}
+use Rattle.up_check.specs.Faults.{AreLegal}
+use Rattle.up_check.proofs.Illegal.{no_first}
 use Rattle.std.proofs.lemmas.Slice.Eq.{bytes_eq-Decides}
 use Rattle.std.specs.Prelude.{Contains, codes}
 use Rattle.pagerd.specs.declared.top.Ended.{Ended}
-use Rattle.pagerd.specs.declared.top.Ended.TheVariants.{Written, Words, Unread, Source, Sink, Memory}
+use Rattle.pagerd.specs.declared.top.Ended.TheVariants.{Written, Illegal, Words, Unread, Source, Sink, Memory}
 use Rattle.pagerd.specs.Built.{unbuilt_line}
-use Rattle.pagerd.specs.Top.{HasFault, HasUnbuilt, WasRead, IsScript, Took, text_fault, unbuilt_fault, status_of}
+use Rattle.pagerd.specs.Top.{IsStep, IsCheck, HasFault, HasUnbuilt, HasJournalFault, SpellsLegal, SpellsIllegal, WasRead, IsScript, HasJournals, Took, whole_journals, text_fault, unbuilt_fault, legal_journals, illegal_journals, journals_fault, longest_script, status_of}
 
-pub status_listed : (ended : Ended) → Contains (0 ∷ 2 ∷ 3 ∷ 4 ∷ 5 ∷ 7 ∷ []) (status_of ended)
+pub status_listed : (ended : Ended) → Contains (0 ∷ 1 ∷ 2 ∷ 3 ∷ 4 ∷ 5 ∷ 7 ∷ []) (status_of ended)
 status_listed Written = (0, lit< tt, refl)
-status_listed Words = (1, lit< tt, refl)
-status_listed Unread = (2, lit< tt, refl)
-status_listed Source = (3, lit< tt, refl)
-status_listed Sink = (4, lit< tt, refl)
-status_listed Memory = (5, lit< tt, refl)
+status_listed Illegal = (1, lit< tt, refl)
+status_listed Words = (2, lit< tt, refl)
+status_listed Unread = (3, lit< tt, refl)
+status_listed Source = (4, lit< tt, refl)
+status_listed Sink = (5, lit< tt, refl)
+status_listed Memory = (6, lit< tt, refl)
 
 pub one_item : {X : Type 0} (xs : List X) (x : X) → 0 < length xs → length xs < 2 → x ≡ get_or xs 0 x → xs ≡ x ∷ []
 one_item [] x some few is = absurd (omega arith)
 one_item (y ∷ []) x some few is = ap (λ z. z ∷ []) (sym is)
 one_item (y ∷ z ∷ zs) x some few is = absurd (omega arith)
 
--- the one word is step exactly where its bytes are
-pub step_word : (words : List (List ℕ)) (word : List ℕ) (r : Bool) → words ≡ word ∷ [] → r ≡ bytes_eq word (codes "step") →
-    (IsTrue r → words ≡ codes "step" ∷ []) × (words ≡ codes "step" ∷ [] → IsTrue r)
-step_word words word r one is =
-    let decides = bytes_eq-Decides word (codes "step") in (
+-- the one word is the wanted one exactly where its bytes are
+pub one_word : (words : List (List ℕ)) (word wanted : List ℕ) (r : Bool) → words ≡ word ∷ [] → r ≡ bytes_eq word wanted →
+    (IsTrue r → words ≡ wanted ∷ []) × (words ≡ wanted ∷ [] → IsTrue r)
+one_word words word wanted r one is =
+    let decides = bytes_eq-Decides word wanted in (
       λ holds. one ∙ ap (λ (w : List ℕ). w ∷ []) (decides.0 (sym is ∙ holds)),
-      λ step. let both : word ∷ [] ≡ codes "step" ∷ [] = sym one ∙ step in
-          let same : word ≡ codes "step" = cc in is ∙ decides.1 same,
+      λ step. let both : word ∷ [] ≡ wanted ∷ [] = sym one ∙ step in
+          let same : word ≡ wanted = cc in is ∙ decides.1 same,
     )
 
-le_from : (bytes : List ℕ) → nat_le (length bytes) 4194304 ≡ true → length bytes ≤ 4194304
-le_from bytes p = grind (arith, nat_tests)
+-- no words are both commands
+pub two_commands : (words : List (List ℕ)) → IsStep words → IsCheck words → ⊥
+two_commands words step check =
+    let both : codes "step" ∷ [] ≡ codes "check" ∷ [] = sym step ∙ check in
+    let same : codes "step" ≡ codes "check" = cc in
+    let lengths : ◌≡◌ {A = ℕ} 4 5 = ap length same in omega arith
 
-too_long : (all bytes rest : List ℕ) → all ≡ bytes ++ rest → nat_le (length bytes) 4194304 ≡ false → nat_le (length all) 4194304 ≡ false
-too_long all bytes rest is p =
+le_from : (limit : ℕ) (bytes : List ℕ) → nat_le (length bytes) limit ≡ true → length bytes ≤ limit
+le_from limit bytes p = grind (arith, nat_tests)
+
+too_long : (limit : ℕ) (all bytes rest : List ℕ) → all ≡ bytes ++ rest → nat_le (length bytes) limit ≡ false → nat_le (length all) limit ≡ false
+too_long limit all bytes rest is p =
     let sum : length all ≡ length bytes + length rest = ap length is ∙ length-append bytes rest in grind (arith, nat_tests)
+
+-- what was read of bytes that fit the limit is these bytes
+all_read : (limit : ℕ) (all : List ℕ) (now : Option (List ℕ)) (bytes : List ℕ) → nat_le (length all) limit ≡ true → WasRead limit (Some all) now bytes → bytes ≡ all
+all_read limit all None bytes fits r = absurd r.given
+all_read limit all (Some rest) bytes fits r =
+    elim (nat_le (length bytes) limit) as (λ b. nat_le (length bytes) limit ≡ b → bytes ≡ all) [
+      | true ↦ λ q. sym (r.given ∙ ap (λ (xs : List ℕ). bytes ++ xs) (r.whole (le_from limit bytes q)) ∙ append-nil bytes)
+      | false ↦ λ q. let long : nat_le (length all) limit ≡ false = too_long limit all bytes rest r.given q in absurd (true≢false (sym fits ∙ long))
+    ] refl
+
+-- a text that spells something isn't too long
+script_fits : (bytes : List ℕ) (script : Script) → script_of bytes ≡ Ok script → nat_le (length bytes) longest_script ≡ true
+script_fits bytes script e = elim (nat_le (length bytes) longest_script) as (λ b. nat_le (length bytes) longest_script ≡ b → b ≡ true) [
+  | true ↦ λ q. refl
+  | false ↦ λ long. let both = rw long at e in cc
+] refl
+
+journals_fit : (bytes : List ℕ) (journals : List Named) → journals_of bytes ≡ Ok journals → nat_le (length bytes) longest_text ≡ true
+journals_fit bytes journals e = elim (nat_le (length bytes) longest_text) as (λ b. nat_le (length bytes) longest_text ≡ b → b ≡ true) [
+  | true ↦ λ q. refl
+  | false ↦ λ long. let both = rw long at e in cc
+] refl
+
+-- what was read from a source that has a script left is that script
+script_read : (left now : Option (List ℕ)) (bytes : List ℕ) (s : IsScript left) → WasRead longest_script left now bytes → script_of bytes ≡ Ok s.script
+script_read left now bytes s r =
+    ap script_of (all_read longest_script s.bytes now bytes (script_fits s.bytes s.script s.spelled) (subst (λ left. WasRead longest_script left now bytes) s.told r)) ∙ s.spelled
+
+-- the same of journals
+journals_read : (left now : Option (List ℕ)) (bytes : List ℕ) (journals : List Named) → HasJournals left journals → WasRead longest_text left now bytes → journals_of bytes ≡ Ok journals
+journals_read left now bytes journals s r =
+    ap journals_of (all_read longest_text s.bytes now bytes (journals_fit s.bytes journals s.spelled) (subst (λ left. WasRead longest_text left now bytes) s.told r)) ∙ s.spelled
 
 -- a script that is done today has no fault and no unbuilt line
 not_told : (bytes text : List ℕ) (script : Script) → script_of bytes ≡ Ok script → unbuilt_line script ≡ None → HasFault bytes text ⊎ HasUnbuilt bytes text → ⊥
@@ -51,36 +97,68 @@ not_told bytes text script spelled built (inr u) =
     let same : script ≡ u.script = cc in
     let line : None ≡ Some u.line = sym built ∙ ap unbuilt_line same ∙ u.first in cc
 
--- a text that is too long spells no script
-long_is_bad : (bytes : List ℕ) (script : Script) → nat_le (length bytes) 4194304 ≡ false → script_of bytes ≡ Ok script → ⊥
-long_is_bad bytes script long e = let both = rw long at e in cc
+-- journals that the text spells are the only ones, and have no fault
+same_journals : (bytes : List ℕ) (one other : List Named) → journals_of bytes ≡ Ok one → journals_of bytes ≡ Ok other → one ≡ other
+same_journals bytes one other p q = let both : (let r : Result (List Named) Fault = Ok one in r) ≡ Ok other = sym p ∙ q in cc
 
--- what was read from a source that has a script left, which is done today, is that script
-no_fault : (left now : Option (List ℕ)) (text bytes : List ℕ) → IsScript left → WasRead left now bytes → HasFault bytes text ⊎ HasUnbuilt bytes text → ⊥
-no_fault None now text bytes s r n = let told : None ≡ Some s.bytes = s.told in cc
-no_fault (Some all) None text bytes s r n = r.given
-no_fault (Some all) (Some rest) text bytes s r n =
-    let same : all ≡ s.bytes = cc in
-    elim (nat_le (length bytes) 4194304) as (λ b. nat_le (length bytes) 4194304 ≡ b → ⊥) [
-      | true ↦ λ q. let short : length bytes ≤ 4194304 = le_from bytes q in
-          let whole : all ≡ bytes = r.given ∙ ap (λ (xs : List ℕ). bytes ++ xs) (r.whole short) ∙ append-nil bytes in
-          not_told bytes text s.script (ap script_of (sym whole ∙ same) ∙ s.spelled) s.built n
-      | false ↦ λ q. let long : nat_le (length all) 4194304 ≡ false = too_long all bytes rest r.given q in
-          long_is_bad all s.script long (ap script_of same ∙ s.spelled)
-    ] refl
+not_faulty : (bytes : List ℕ) (journals : List Named) (fault : Fault) → journals_of bytes ≡ Ok journals → journals_of bytes ≡ Err fault → ⊥
+not_faulty bytes journals fault p q = let both : (let r : Result (List Named) Fault = Ok journals in r) ≡ Err fault = sym p ∙ q in cc
 
--- a fault was told, of the text or of a line that isn't built
-pub no_unread : (words : List (List ℕ)) (left now before after : Option (List ℕ)) → IsScript left → Took text_fault words left now before after ⊎ Took unbuilt_fault words left now before after → ⊥
-no_unread words left now before after s (inl t) = no_fault left now t.text t.is.1.bytes s t.is.1.read (inl t.is.1.is)
-no_unread words left now before after s (inr t) = no_fault left now t.text t.is.1.bytes s t.is.1.read (inr t.is.1.is)
+-- of a script that is done today no fault was told, of the text or of a line that isn't built
+pub no_unread : (words : List (List ℕ)) (left now before after : Option (List ℕ)) → IsStep words → IsScript left →
+    Took text_fault words left now before after ⊎ (Took unbuilt_fault words left now before after ⊎ Took journals_fault words left now before after) → ⊥
+no_unread words left now before after step s (inl t) =
+    not_told t.is.1.bytes t.text s.script (script_read left now t.is.1.bytes s t.is.1.read) s.built (inl t.is.1.is)
+no_unread words left now before after step s (inr (inl t)) =
+    not_told t.is.1.bytes t.text s.script (script_read left now t.is.1.bytes s t.is.1.read) s.built (inr t.is.1.is)
+no_unread words left now before after step s (inr (inr t)) = two_commands words step t.is.0
 
--- where the words are step, the source has a script, and no count of faults rose, all is done or memory ran out
-pub ends_well : {Step SourceRose SinkRose SourceFacts SinkFacts : Type 0} (left : Option (List ℕ)) (ended : Ended) →
-    (Step → ended ≡ Words → ⊥) → (ended ≡ Unread → (IsScript left → ⊥)) → (ended ≡ Source → SourceRose × SourceFacts) → (ended ≡ Sink → SinkRose × SinkFacts) →
-    Step → IsScript left → (SourceRose → ⊥) → (SinkRose → ⊥) → (status_of ended ≡ 0) ⊎ (status_of ended ≡ 7)
-ends_well left Written words unread source sink step script no_source no_sink = inl refl
-ends_well left Words words unread source sink step script no_source no_sink = absurd (words step refl)
-ends_well left Unread words unread source sink step script no_source no_sink = absurd (unread refl script)
-ends_well left Source words unread source sink step script no_source no_sink = absurd (no_source (source refl).0)
-ends_well left Sink words unread source sink step script no_source no_sink = absurd (no_sink (sink refl).0)
-ends_well left Memory words unread source sink step script no_source no_sink = inr refl
+-- where the words are step, no entry at fault was told
+pub no_illegal : (words : List (List ℕ)) (left now before after : Option (List ℕ)) → IsStep words → Took illegal_journals words left now before after → ⊥
+no_illegal words left now before after step t = two_commands words step t.is.0
+
+-- of journals no fault of the text was told
+pub no_journals_unread : (words : List (List ℕ)) (left now before after : Option (List ℕ)) (journals : List Named) → IsCheck words → HasJournals left journals →
+    Took text_fault words left now before after ⊎ (Took unbuilt_fault words left now before after ⊎ Took journals_fault words left now before after) → ⊥
+no_journals_unread words left now before after journals check s (inl t) = two_commands words t.is.0 check
+no_journals_unread words left now before after journals check s (inr (inl t)) = two_commands words t.is.0 check
+no_journals_unread words left now before after journals check s (inr (inr t)) =
+    not_faulty t.is.1.bytes journals t.is.1.is.fault (journals_read left now t.is.1.bytes journals s t.is.1.read) t.is.1.is.found
+
+-- of legal journals no entry at fault was told
+pub not_illegal : (words : List (List ℕ)) (left now before after : Option (List ℕ)) (journals : List Named) → HasJournals left journals → AreLegal journals →
+    Took illegal_journals words left now before after → ⊥
+not_illegal words left now before after journals s legal t =
+    let is = t.is.1.is in
+    no_first is.journals is.number is.place is.expected is.first
+    (subst AreLegal (same_journals t.is.1.bytes journals is.journals (journals_read left now t.is.1.bytes journals s t.is.1.read) is.spelled) legal)
+
+-- of other journals it wasn't told that they are legal
+pub not_legal : (words : List (List ℕ)) (left now before after : Option (List ℕ)) (journals : List Named) → IsCheck words → HasJournals left journals → (AreLegal journals → ⊥) →
+    Took whole_journals words left now before after ⊎ Took legal_journals words left now before after → ⊥
+not_legal words left now before after journals check s illegal (inl t) = two_commands words t.is.0 check
+not_legal words left now before after journals check s illegal (inr t) =
+    let is = t.is.1.is in
+    illegal (subst AreLegal (sym (same_journals t.is.1.bytes journals is.journals (journals_read left now t.is.1.bytes journals s t.is.1.read) is.spelled)) is.legal)
+
+-- where nothing else is left, all is done or memory ran out
+pub ends_written : (ended : Ended) → (ended ≡ Illegal → ⊥) → (ended ≡ Words → ⊥) → (ended ≡ Unread → ⊥) → (ended ≡ Source → ⊥) → (ended ≡ Sink → ⊥) →
+    (status_of ended ≡ 0) ⊎ (status_of ended ≡ 7)
+ends_written Written illegal words unread source sink = inl refl
+ends_written Illegal illegal words unread source sink = absurd (illegal refl)
+ends_written Words illegal words unread source sink = absurd (words refl)
+ends_written Unread illegal words unread source sink = absurd (unread refl)
+ends_written Source illegal words unread source sink = absurd (source refl)
+ends_written Sink illegal words unread source sink = absurd (sink refl)
+ends_written Memory illegal words unread source sink = inr refl
+
+-- where nothing else is left, an entry at fault was told or memory ran out
+pub ends_illegal : (ended : Ended) → (ended ≡ Written → ⊥) → (ended ≡ Words → ⊥) → (ended ≡ Unread → ⊥) → (ended ≡ Source → ⊥) → (ended ≡ Sink → ⊥) →
+    (status_of ended ≡ 1) ⊎ (status_of ended ≡ 7)
+ends_illegal Written written words unread source sink = absurd (written refl)
+ends_illegal Illegal written words unread source sink = inl refl
+ends_illegal Words written words unread source sink = absurd (words refl)
+ends_illegal Unread written words unread source sink = absurd (unread refl)
+ends_illegal Source written words unread source sink = absurd (source refl)
+ends_illegal Sink written words unread source sink = absurd (sink refl)
+ends_illegal Memory written words unread source sink = inr refl

@@ -4,3 +4,4 @@ pub mod Blocks
 pub mod Making
 pub mod Naming
 pub mod Endings
+pub mod Judging

@@ -1,6 +1,6 @@
 -- Journals get their objects' names one after the other.
 use Rattle.std.proofs.Common.{◌≡◌, ◌≤◌, ℕ, zero, suc, arith, List, [], ◌∷◌, ◌++◌, length, slice_get, Some, None, refl, ap}
-use Rattle.up_journal.specs.declared.entry.Entry.{Entry}
+use Rattle.up_model.specs.declared.entry.Entry.{Entry}
 use Rattle.up_script.specs.declared.script.ObjectLine.{ObjectLine}
 use Rattle.pagerd.specs.Journals.{name_one, named_from}
 

@@ -3,15 +3,15 @@ use Rattle.std.proofs.Common.{length-set, ◌≡◌, ℕ, ◌<◌, ◌≤◌, �
 use Rattle.std.specs.List.{list_all}
 use Rattle.std.proofs.lemmas.Bool.{and_parts, leb-true, ltb-true}
 use Rattle.std.proofs.lemmas.Bool.Decides.{nat_tests}
-use Rattle.up_journal.specs.Legal.{Life, Legal, after}
-use Rattle.up_journal.specs.Parked.{retried, waits_after, waits_under}
-use Rattle.up_journal.specs.Reply.{proper, reply}
-use Rattle.up_journal.specs.declared.entry.Birth.{Birth}
-use Rattle.up_journal.specs.declared.entry.Entry.{Entry}
-use Rattle.up_journal.specs.declared.entry.Call.TheVariants.{Packet, Supply, Retry}
+use Rattle.up_model.specs.Legal.{Life, Legal, after}
+use Rattle.up_model.specs.Parked.{retried, waits_after, waits_under}
+use Rattle.up_model.specs.Reply.{proper, reply}
+use Rattle.up_model.specs.declared.entry.Birth.{Birth}
+use Rattle.up_model.specs.declared.entry.Entry.{Entry}
+use Rattle.up_model.specs.declared.entry.Call.TheVariants.{Packet, Supply, Retry}
 use Rattle.up_script.specs.declared.script.Action.{Action}
 use Rattle.up_script.specs.declared.script.Action.TheVariants.{Go, Read, Act}
-use Rattle.up_journal.proofs.Bools.{nat_eq_true, nat_eq-same, not_true}
+use Rattle.up_model.proofs.Bools.{nat_eq_true, nat_eq-same, not_true}
 use Rattle.up_script.specs.Sound.{is_within, is_sound_call, is_sound_action, is_fair_object, is_sound_object}
 use Rattle.up_script.specs.declared.script.ObjectLine.{ObjectLine}
 use Rattle.up_state.proofs.Lists.{zero_is_no_suc, suc_is_not_zero, same_suc}

@@ -1,9 +1,9 @@
 -- Which scripts are done today: the forms that are built.
 use Rattle.std.specs.Prelude.{ℕ, ◌+◌, ◌%◌, ◌==◌, ◌&&◌, not, max, Bool, true, false, cond, List, [], ◌∷◌, Option, Some, None, is_some, nat_le}
 use Rattle.std.specs.List.{fold, list_all, sum_by}
-use Rattle.up_journal.specs.declared.entry.Birth.{Birth}
-use Rattle.up_journal.specs.declared.entry.Call.{Call}
-use Rattle.up_journal.specs.declared.entry.Call.TheVariants.{Packet, Supply}
+use Rattle.up_model.specs.declared.entry.Birth.{Birth}
+use Rattle.up_model.specs.declared.entry.Call.{Call}
+use Rattle.up_model.specs.declared.entry.Call.TheVariants.{Packet, Supply}
 use Rattle.up_script.specs.Objects.{is_worker}
 use Rattle.up_script.specs.Sound.{is_within, is_sound_call, is_sound_object, is_sound_line}
 use Rattle.up_script.specs.declared.script.Action.{Action}

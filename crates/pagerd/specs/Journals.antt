@@ -1,7 +1,7 @@
 -- The journals that a script makes.
 use Rattle.std.specs.Prelude.{◌≡◌, ℕ, ◌+◌, Some, List, [], ◌∷◌, length, map, reverse, slice_get}
-use Rattle.up_journal.specs.Legal.{Life, Legal}
-use Rattle.up_journal.specs.declared.entry.Entry.{Entry}
+use Rattle.up_model.specs.Legal.{Life, Legal}
+use Rattle.up_model.specs.declared.entry.Entry.{Entry}
 use Rattle.up_script.specs.declared.script.ObjectLine.{ObjectLine}
 use Rattle.up_script.specs.declared.script.Script.{Script}
 use Rattle.up_text.specs.declared.journals.Named.{Named}

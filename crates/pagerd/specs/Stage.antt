@@ -1,8 +1,8 @@
 -- What each step of a script does to its objects and actors.
 use Rattle.std.specs.Prelude.{◌≡◌, ℕ, ◌+◌, ◌<◌, ◌≤◌, cond, Option, Some, None, MatchOption, List, [], length, map, take, suc, slice_get, slice_set, slice_index}
 use Rattle.std.specs.Bool.{MatchBool}
-use Rattle.up_journal.specs.Legal.{Life, after, due}
-use Rattle.up_journal.specs.Parked.{waits_after}
+use Rattle.up_model.specs.Legal.{Life, after, due}
+use Rattle.up_model.specs.Parked.{waits_after}
 use Rattle.up_script.specs.declared.script.Line.{Line}
 use Rattle.pagerd.specs.Steps.{Entered, Aimed, of_object, parked_at, parks, begun, calls_of, aim_of, is_go, acts, retry_of, Block, IsDone, LineDone, Steps}
 use Rattle.pagerd.specs.declared.steps.Parked.{Parked}

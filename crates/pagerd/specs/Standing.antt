@@ -1,7 +1,7 @@
 -- What a script's objects and actors keep, whatever was done.
 use Rattle.std.specs.Prelude.{◌≡◌, ℕ, Option, Some, List, length, slice_get}
-use Rattle.up_journal.specs.Legal.{Life}
-use Rattle.up_journal.specs.Parked.{waits_under}
+use Rattle.up_model.specs.Legal.{Life}
+use Rattle.up_model.specs.Parked.{waits_under}
 use Rattle.pagerd.specs.Journals.{AllLegal}
 use Rattle.pagerd.specs.declared.steps.Parked.{Parked}
 use Rattle.pagerd.specs.declared.steps.Stage.TheInside.{Inside}

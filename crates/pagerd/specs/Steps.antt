@@ -1,11 +1,11 @@
 -- What the journals of a script's objects have to be so that they are those that its lines make, done in file order on one thread.
 -- All entries stand in one list, each with its object, newest first.
 use Rattle.std.specs.Prelude.{◌≡◌, ℕ, ◌/◌, ◌==◌, ◌&&◌, not, Bool, true, false, cond, Some, MatchOption, List, [], ◌∷◌, length, take, slice_get, zero, suc, ◌⊎◌, IsSome, is_none, Option, None}
-use Rattle.up_journal.specs.Parked.{retried, waits_after}
-use Rattle.up_journal.specs.declared.entry.Entry.{Entry}
-use Rattle.up_journal.specs.declared.entry.Brought.TheVariants.{Nothing, Frames}
-use Rattle.up_journal.specs.declared.entry.Call.{Call}
-use Rattle.up_journal.specs.declared.entry.Call.TheVariants.{Read as ReadCall, Retry, Supply, Packet}
+use Rattle.up_model.specs.Parked.{retried, waits_after}
+use Rattle.up_model.specs.declared.entry.Entry.{Entry}
+use Rattle.up_model.specs.declared.entry.Brought.TheVariants.{Nothing, Frames}
+use Rattle.up_model.specs.declared.entry.Call.{Call}
+use Rattle.up_model.specs.declared.entry.Call.TheVariants.{Read as ReadCall, Retry, Supply, Packet}
 use Rattle.up_script.specs.declared.script.Action.{Action}
 use Rattle.up_script.specs.declared.script.Action.TheVariants.{Go, Read, Act}
 use Rattle.up_script.specs.declared.script.Line.{Line}

@@ -1,5 +1,7 @@
 -- The texts of the program beside the journals'.
-use Rattle.std.specs.Prelude.{ℕ, List, ◌++◌, decimal, codes}
+use Rattle.std.specs.Prelude.{ℕ, List, ◌++◌, Option, Some, None, decimal, codes}
+use Rattle.up_model.specs.declared.entry.Reply.{Reply}
+use Rattle.up_text.specs.Text.{spaced, reply_words}
 use Rattle.up_words.specs.declared.fault.Why.{Why}
 use Rattle.up_words.specs.declared.fault.Why.TheVariants as why
 
@@ -20,3 +22,12 @@ why_text why.Order = codes "order"
 -- a fault at a line
 abbrev pub fault_text : ℕ → List ℕ → List ℕ
 fault_text line reason = codes "fault " ++ decimal line ++ codes " " ++ reason ++ codes "\n"
+
+-- what is expected of an entry at fault: a reply, or a proper call
+abbrev pub expected_text : Option Reply → List ℕ
+expected_text None = codes " improper"
+expected_text (Some reply) = codes " expected" ++ spaced (reply_words reply)
+
+-- the first entry at fault, by its journal's name and its place there
+abbrev pub illegal_text : List ℕ → ℕ → Option Reply → List ℕ
+illegal_text name place expected = codes "illegal " ++ name ++ codes " " ++ decimal place ++ expected_text expected ++ codes "\n"

@@ -8,10 +8,16 @@ use Rattle.up_script.specs.declared.script.Script.{Script}
 use Rattle.pagerd.specs.declared.top.Answer.{Answer}
 use Rattle.pagerd.specs.declared.top.Answer.TheVariants.{Journals, Bad, Unbuilt}
 use Rattle.pagerd.specs.declared.top.Ended.{Ended}
-use Rattle.pagerd.specs.declared.top.Ended.TheVariants.{Written, Words, Unread, Source, Sink, Memory}
+use Rattle.pagerd.specs.declared.top.Ended.TheVariants.{Written, Illegal as IllegalEnding, Words, Unread, Source, Sink, Memory}
 use Rattle.pagerd.specs.Built.{unbuilt_line}
 use Rattle.pagerd.specs.Journals.{MakesJournals}
-use Rattle.pagerd.specs.Text.{fault_text, why_text}
+use Rattle.pagerd.specs.Text.{fault_text, why_text, illegal_text}
+use Rattle.pagerd.specs.declared.checking.Judgement.{Judgement}
+use Rattle.pagerd.specs.declared.checking.Judgement.TheVariants.{Legal, Illegal, Fault as FaultTold}
+use Rattle.up_model.specs.declared.entry.Reply.{Reply}
+use Rattle.up_check.specs.Faults.{AreLegal, IsFirst}
+use Rattle.up_text.specs.Limits.{longest_text}
+use Rattle.up_text.specs.Reading.{journals_of}
 use Rattle.up_text.specs.Text.{text as journals_text}
 use Rattle.up_text.specs.declared.journals.Named.{Named}
 
@@ -38,32 +44,75 @@ pub record HasUnbuilt (bytes text : List ℕ) : Type 0 where
   pub first : unbuilt_line script ≡ Some line
   pub told : text ≡ fault_text line (codes "unbuilt")
 
+-- the bytes spell journals that are legal, and this text says so
+pub record SpellsLegal (bytes text : List ℕ) : Type 0 where
+  pub journals : List Named
+  pub spelled : journals_of bytes ≡ Ok journals
+  pub legal : AreLegal journals
+  pub told : text ≡ codes "legal\n"
+
+-- the bytes spell journals that aren't all legal, and this text tells the first entry at fault
+pub record SpellsIllegal (bytes text : List ℕ) : Type 0 where
+  pub journals : List Named
+  pub spelled : journals_of bytes ≡ Ok journals
+  pub number : ℕ
+  pub place : ℕ
+  pub expected : Option Reply
+  pub first : IsFirst journals number place expected
+  pub told : text ≡ illegal_text first.journal.name place expected
+
+-- the bytes are outside the grammar or a limit of journals, and this text tells their first fault
+pub record HasJournalFault (bytes text : List ℕ) : Type 0 where
+  pub fault : Fault
+  pub found : journals_of bytes ≡ Err fault
+  pub told : text ≡ fault_text fault.line (why_text fault.why)
+
 -- what is to be told of some bytes
 abbrev pub IsAnswer : List ℕ → Answer → Type 0
 IsAnswer bytes (Journals text) = Spells bytes text.items
 IsAnswer bytes (Bad text) = HasFault bytes text.items
 IsAnswer bytes (Unbuilt text) = HasUnbuilt bytes text.items
 
+-- what is to be told of some bytes that are to spell journals
+abbrev pub IsJudgement : List ℕ → Judgement → Type 0
+IsJudgement bytes (Legal text) = SpellsLegal bytes text.items
+IsJudgement bytes (Illegal text) = SpellsIllegal bytes text.items
+IsJudgement bytes (FaultTold text) = HasJournalFault bytes text.items
+
 -- the words are the one word step
 abbrev pub IsStep : List (List ℕ) → Type 0
 IsStep words = words ≡ codes "step" ∷ []
 
+-- the words are the one word check
+abbrev pub IsCheck : List (List ℕ) → Type 0
+IsCheck words = words ≡ codes "check" ∷ []
+
+-- the greatest length of a script's text
+abbrev pub longest_script : ℕ
+longest_script = 4194304
+
 -- the source was read to its end, and gave these bytes. Of a text that is too long one byte more than the limit was read
-pub record WasRead (left_before left_now : Option (List ℕ)) (bytes : List ℕ) : Type 0 where
+pub record WasRead (limit : ℕ) (left_before left_now : Option (List ℕ)) (bytes : List ℕ) : Type 0 where
   pub given : Consumes left_before left_now bytes
-  pub whole : length bytes ≤ 4194304 → IsAtEnd left_now
+  pub whole : length bytes ≤ limit → IsAtEnd left_now
 
 -- the source was read, and its bytes have to do so with the text that is written
-pub record Makes (Is : List ℕ → List ℕ → Type 0) (left_before left_now : Option (List ℕ)) (text : List ℕ) : Type 0 where
+pub record Makes (limit : ℕ) (Is : List ℕ → List ℕ → Type 0) (left_before left_now : Option (List ℕ)) (text : List ℕ) : Type 0 where
   pub bytes : List ℕ
-  pub read : WasRead left_before left_now bytes
+  pub read : WasRead limit left_before left_now bytes
   pub is : Is bytes text
 
 -- the source was read, and this is to be told of its bytes
 abbrev pub IsSaid : Option (List ℕ) → Option (List ℕ) → Answer → Type 0
-IsSaid left_before left_now (Journals text) = Makes Spells left_before left_now text.items
-IsSaid left_before left_now (Bad text) = Makes HasFault left_before left_now text.items
-IsSaid left_before left_now (Unbuilt text) = Makes HasUnbuilt left_before left_now text.items
+IsSaid left_before left_now (Journals text) = Makes longest_script Spells left_before left_now text.items
+IsSaid left_before left_now (Bad text) = Makes longest_script HasFault left_before left_now text.items
+IsSaid left_before left_now (Unbuilt text) = Makes longest_script HasUnbuilt left_before left_now text.items
+
+-- the source was read, and this is to be told of its bytes, which are to spell journals
+abbrev pub IsJudged : Option (List ℕ) → Option (List ℕ) → Judgement → Type 0
+IsJudged left_before left_now (Legal text) = Makes longest_text SpellsLegal left_before left_now text.items
+IsJudged left_before left_now (Illegal text) = Makes longest_text SpellsIllegal left_before left_now text.items
+IsJudged left_before left_now (FaultTold text) = Makes longest_text HasJournalFault left_before left_now text.items
 
 -- the source tells what it has left, and that is a script that is done today
 pub record IsScript (left : Option (List ℕ)) : Type 0 where
@@ -73,19 +122,32 @@ pub record IsScript (left : Option (List ℕ)) : Type 0 where
   pub spelled : script_of bytes ≡ Ok script
   pub built : unbuilt_line script ≡ None
 
--- what a call has to write: the journals of its script, that its words aren't step, its text's fault, or its first unbuilt line
+-- the source tells what it has left, and that spells these journals
+pub record HasJournals (left : Option (List ℕ)) (journals : List Named) : Type 0 where
+  pub bytes : List ℕ
+  pub told : left ≡ Some bytes
+  pub spelled : journals_of bytes ≡ Ok journals
+
+-- what a call has to write: the journals of its script, that its words are neither step nor check, its script's fault, or its
+-- first unbuilt line; or of journals that they are legal, the first entry at fault, or their text's fault
 pub data Output : Type 0 where
   whole_journals : Output
   words_fault : Output
   text_fault : Output
   unbuilt_fault : Output
+  legal_journals : Output
+  illegal_journals : Output
+  journals_fault : Output
 
 -- the text that a call has to write, and what calls for it: the words, and what the source had left before and has left now
 abbrev pub IsText : Output → List (List ℕ) → Option (List ℕ) → Option (List ℕ) → List ℕ → Type 0
-IsText whole_journals words left_before left_now text = IsStep words × Makes Spells left_before left_now text
-IsText words_fault words left_before left_now text = (IsStep words → ⊥) × (text ≡ codes "words\n")
-IsText text_fault words left_before left_now text = IsStep words × Makes HasFault left_before left_now text
-IsText unbuilt_fault words left_before left_now text = IsStep words × Makes HasUnbuilt left_before left_now text
+IsText whole_journals words left_before left_now text = IsStep words × Makes longest_script Spells left_before left_now text
+IsText words_fault words left_before left_now text = (IsStep words → ⊥) × (IsCheck words → ⊥) × (text ≡ codes "words\n")
+IsText text_fault words left_before left_now text = IsStep words × Makes longest_script HasFault left_before left_now text
+IsText unbuilt_fault words left_before left_now text = IsStep words × Makes longest_script HasUnbuilt left_before left_now text
+IsText legal_journals words left_before left_now text = IsCheck words × Makes longest_text SpellsLegal left_before left_now text
+IsText illegal_journals words left_before left_now text = IsCheck words × Makes longest_text SpellsIllegal left_before left_now text
+IsText journals_fault words left_before left_now text = IsCheck words × Makes longest_text HasJournalFault left_before left_now text
 
 -- the call had this to write, and the sink took all of its text
 pub record Took (output : Output) (words : List (List ℕ)) (left_before left_now written_before written_now : Option (List ℕ)) : Type 0 where
@@ -103,6 +165,7 @@ pub record TookFront (words : List (List ℕ)) (left_before left_now written_bef
 -- the number of a status
 abbrev pub status_of : Ended → ℕ
 status_of Written = 0
+status_of IllegalEnding = 1
 status_of Words = 2
 status_of Unread = 3
 status_of Source = 4

@@ -2,7 +2,7 @@ ghost use Rattle.std.specs.Prelude.{◌≡◌, ◌≤◌, ◌*◌, true, length}
 ghost use Rattle.up_script.specs.Sound.{is_sound};
 ghost use Rattle.pagerd.specs.Built as built;
 
-use up_journal::{Birth, Call};
+use up_model::{Birth, Call};
 use up_script::{Action, ActorLine, Kind, Line, ObjectLine, Script};
 
 /// The first line of a form that isn't built.

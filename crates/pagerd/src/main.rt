@@ -3,6 +3,7 @@
 #![tactic(auto)]
 
 mod built;
+mod checking;
 mod steps;
 #[cfg(test)]
 mod tests;
@@ -52,6 +53,8 @@ fn words(alloc: Global, rt: &HostRuntime) -> Result<Vec<String>, AllocError> {
 
 fn print_usage(rt: &HostRuntime) -> io::Result<()> {
     eprintln!(rt; "usage: pagerd step < SCRIPT")?;
+    eprintln!(rt; "       pagerd check < JOURNALS")?;
     eprintln!(rt; "  step   does the lines of a script in file order, on one thread,")?;
-    eprintln!(rt; "         and prints its object's journal")
+    eprintln!(rt; "         and prints its objects' journals")?;
+    eprintln!(rt; "  check  says whether journals are legal, or which entry is the first at fault")
 }

@@ -1,10 +1,10 @@
 ghost use Rattle.std.specs.Prelude.{◌≡◌, ◌<◌, ◌≤◌, ◌++◌, [], ◌∷◌, true, false, None, Some, length, replicate, slice_get, slice_index, vec_len, IfOk, OnOk, OnErr};
 ghost use Rattle.std.specs.Vec.{vec_capacity};
 ghost use Rattle.std.specs.List.{list_all};
-ghost use Rattle.up_journal.specs.declared.entry.Call.{Call as CallValue};
-ghost use Rattle.up_journal.specs.Legal as legal;
-ghost use Rattle.up_journal.specs.Parked as waiting;
-ghost use Rattle.up_journal.specs.Reply as replies;
+ghost use Rattle.up_model.specs.declared.entry.Call.{Call as CallValue};
+ghost use Rattle.up_model.specs.Legal as legal;
+ghost use Rattle.up_model.specs.Parked as waiting;
+ghost use Rattle.up_model.specs.Reply as replies;
 ghost use Rattle.up_script.specs.Sound as sound;
 ghost use Rattle.pagerd.specs.Built as built;
 ghost use Rattle.pagerd.specs.Journals.{AreJournalsOf, MakesJournals, named_from, name_one, AllLegal, new_lives, ends_of};
@@ -13,7 +13,7 @@ ghost use Rattle.pagerd.specs.Stage.{Acted, Passed, Began, WentOn, Did, GoneThro
 
 use std::alloc::Global;
 use std::marker::Model;
-use up_journal::{Call, Entries, Reply};
+use up_model::{Call, Entries, Reply};
 use up_num::{Items, Memory, PageNo, Piece};
 use up_script::{Action, Line, ObjectLine, Script};
 use up_state::{Object, packet, retry, supply, touch};

@@ -1,8 +1,11 @@
+mod changed;
+
 use crate::top::alone;
+use changed::CHANGED;
 use std::alloc::Global;
 use std::process::Abort;
 use std::test::Fail;
-use up_journal::{Birth, Brought, Call, Entry, Reply};
+use up_model::{Birth, Brought, Call, Entry, Reply};
 use up_num::{Packet, PageNo, PageRange, Piece};
 use up_outside::{MemSink, MemSource, PlainSource};
 use up_text::{Journals, read_journals};
@@ -197,7 +200,8 @@ fn other_words_are_told(rt: HostRuntime) -> Result<(), Fail> {
         "steps",
         "run",
         "step x",
-        "check",
+        "check x",
+        "check step",
         "gen 7 1",
         "gen 07 1",
         "gen -- 7 1",
@@ -213,6 +217,71 @@ fn other_words_are_told(rt: HostRuntime) -> Result<(), Fail> {
         let status = alone(alloc, words.as_slice(), &mut source, &mut sink);
         assert_eq!(rt; status, 2, "{line}");
         assert!(rt; sink.written() == b"words\n".as_slice(), "{line}");
+    }
+    Ok(())
+}
+
+/// Judges journals by `check` and compares what is told.
+fn check_journals(
+    rt: &impl Abort,
+    alloc: Global,
+    text: &str,
+    status: u8,
+    told: &str,
+) -> Result<(), Fail> {
+    let mut words = Vec::new(alloc);
+    words.push(String::from_str(alloc, "check")?)?;
+    let mut source = PlainSource::new(alloc, text.as_bytes())?;
+    let mut sink = MemSink::new(alloc, &[], 100)?;
+    let found = alone(alloc, words.as_slice(), &mut source, &mut sink);
+    assert_eq!(rt; found, status, "{told}");
+    assert!(rt; sink.written() == told.as_bytes(), "{told}");
+    Ok(())
+}
+
+#[test]
+fn journals_are_judged(rt: HostRuntime) -> Result<(), Fail> {
+    let alloc = rt.alloc();
+    let (before, _) = FIRST_JOURNAL
+        .split_once("3 0 0 retry")
+        .ok_or("an actor retries")?;
+    let rows = [
+        ("3 0 0 retry 0 - -> bytes 61*1\nend 4\ndone\n", 0, "legal\n"),
+        (
+            "3 0 0 retry 0 - -> bytes 62*1\nend 4\ndone\n",
+            1,
+            "illegal a 3 expected bytes 61*1\n",
+        ),
+        (
+            "3 0 0 retry 5 - -> bytes 61*1\nend 4\ndone\n",
+            1,
+            "illegal a 3 improper\n",
+        ),
+        ("3 0 0 retry", 3, "fault 6 cut\n"),
+        // The second journal, where an accepted end wakes nobody and a refused one has words of its own.
+        (
+            "end 3\njournal b 1 - free 1 1 -\n0 0 0 end 0 1 -> done\nend 1\ndone\n",
+            1,
+            "illegal b 0 expected woke -\n",
+        ),
+        (
+            "end 3\njournal b 1 - free 1 1 -\n0 0 0 end 0 1 -> woke -\n1 0 0 unpin 0 1 -> done\nend 2\ndone\n",
+            1,
+            "illegal b 1 expected refused unpinned 0\n",
+        ),
+    ];
+    for (rest, status, told) in rows {
+        let text = format!(in alloc; "{before}{rest}")?;
+        check_journals(&rt, alloc, text.as_str(), status, told)?;
+    }
+    check_journals(&rt, alloc, "pagerd-journal 1\ndone\n", 0, "legal\n")?;
+    check_journals(&rt, alloc, "", 3, "fault 1 header\n")
+}
+
+#[test]
+fn a_changed_reply_is_found_at_its_entry(rt: HostRuntime) -> Result<(), Fail> {
+    for (text, told) in CHANGED {
+        check_journals(&rt, rt.alloc(), text, 1, told)?;
     }
     Ok(())
 }

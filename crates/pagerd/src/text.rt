@@ -1,13 +1,15 @@
-ghost use Rattle.std.specs.Prelude.{◌≡◌, IfOk};
-ghost use Rattle.pagerd.specs.Text.{fault_text, why_text};
+ghost use Rattle.std.specs.Prelude.{◌≡◌, ◌++◌, IfOk, OnOk};
+ghost use Rattle.pagerd.specs.Text.{expected_text, fault_text, illegal_text, why_text};
 
 #[cfg(test)]
 mod tests;
 
 use itoa::Buffer;
 use std::alloc::Global;
+use up_model::Reply;
 use up_num::Memory;
 use up_script::Why;
+use up_text::put_reply;
 
 /// The text of a fault at a line.
 pub fn fault_at(alloc: Global, line: u32, reason: &[u8]) -> Result<Vec<u8>, Memory>
@@ -21,6 +23,38 @@ pub fn fault_at(alloc: Global, line: u32, reason: &[u8]) -> Result<Vec<u8>, Memo
     text.extend_from_slice(reason)?;
     text.extend_from_slice(b"\n")?;
     Ok(text)
+}
+
+/// The text of the first entry at fault, with the reply that was expected of a proper call.
+pub fn illegal_at(
+    alloc: Global,
+    name: &[u8],
+    entry: u64,
+    expected: &Option<Reply>,
+) -> Result<Vec<u8>, Memory>
+    ensures { IfOk result (λ text. text.items ≡ illegal_text name.now entry expected.now) }
+{
+    let mut buffer = Buffer::new();
+    let mut text = Vec::new(alloc);
+    text.extend_from_slice(b"illegal ")?;
+    text.extend_from_slice(name)?;
+    text.extend_from_slice(b" ")?;
+    text.extend_from_slice(buffer.format(entry).as_bytes())?;
+    put_expected(&mut text, expected)?;
+    text.extend_from_slice(b"\n")?;
+    Ok(text)
+}
+
+fn put_expected(text: &mut Vec<u8>, expected: &Option<Reply>) -> Result<(), Memory>
+    ensures { OnOk result (text.new.items ≡ text.old.items ++ expected_text expected.now) }
+{
+    match expected {
+        None => text.extend_from_slice(b" improper"),
+        Some(reply) => {
+            text.extend_from_slice(b" expected")?;
+            put_reply(text, reply)
+        }
+    }
 }
 
 /// The word for a reason.

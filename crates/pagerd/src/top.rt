@@ -1,8 +1,11 @@
-ghost use Rattle.std.specs.Prelude.{◌≡◌, ◌≢◌, ◌↔◌, [], ◌∷◌, map, string_bytes, IsTrue, IfOk, IfErr, ◌⊎◌, Contains};
+ghost use Rattle.std.specs.Prelude.{◌≡◌, ◌≢◌, ◌↔◌, [], ◌∷◌, List, ℕ, map, string_bytes, IsTrue, IfOk, IfErr, ◌⊎◌, Contains};
 ghost use Rattle.up_outside.specs.Cause.{Rose};
-ghost use Rattle.pagerd.specs.Top.{IsStep, IsSaid, IsAnswer, IsScript, Took, TookFront, whole_journals, words_fault, text_fault, unbuilt_fault, status_of};
+ghost use Rattle.up_text.specs.declared.journals.Named.{Named};
+ghost use Rattle.up_check.specs.Faults.{AreLegal};
+ghost use Rattle.pagerd.specs.Top.{IsStep, IsCheck, IsSaid, IsAnswer, IsScript, HasJournals, Took, TookFront, whole_journals, words_fault, text_fault, unbuilt_fault, legal_journals, illegal_journals, journals_fault, status_of};
 
 use crate::built::find_unbuilt;
+use crate::checking::{Judgement, judge};
 use crate::steps::journals_of;
 use crate::text::{fault_at, why_word};
 use std::alloc::Global;
@@ -18,12 +21,14 @@ const TEXT: usize = 4_194_304;
 ///
 /// | Status | Comes | The sink took |
 /// |---|---|---|
-/// | 0 | all was done and written | the journals' text |
-/// | 2 | the words aren't the one word `step` | `words` |
+/// | 0 | `step`: all was done and written | the journals' text |
+/// | 0 | `check`: the journals are legal | `legal` |
+/// | 1 | `check`: the journals aren't legal | `illegal NAME ENTRY expected REPLY`, or `illegal NAME ENTRY improper`, of the first entry at fault |
+/// | 2 | the words are neither the one word `step` nor the one word `check` | `words` |
 /// | 3 | the text is outside its grammar or a limit | `fault LINE WHY`, the first fault |
-/// | 3 | a line has a form that isn't built yet | `fault LINE unbuilt`, the first such line |
+/// | 3 | `step`: a line has a form that isn't built yet | `fault LINE unbuilt`, the first such line |
 /// | 4 | only where the source failed | nothing |
-/// | 5 | only where the sink failed | some first bytes of the text that 0, 2 or 3 would have written |
+/// | 5 | only where the sink failed | some first bytes of the text that 0, 1, 2 or 3 would have written |
 /// | 7 | want of memory | nothing |
 pub fn alone<S: Source, K: Sink>(
     alloc: Global,
@@ -31,19 +36,27 @@ pub fn alone<S: Source, K: Sink>(
     source: &mut S,
     sink: &mut K,
 ) -> u8
-    ensures done { result ≡ 0 → Took whole_journals (map string_bytes words.now) (S.left source.old) (S.left source.new) (K.written sink.old) (K.written sink.new) }
+    ensures done { result ≡ 0 → (Took whole_journals (map string_bytes words.now) (S.left source.old) (S.left source.new) (K.written sink.old) (K.written sink.new)) ⊎ (Took legal_journals (map string_bytes words.now) (S.left source.old) (S.left source.new) (K.written sink.old) (K.written sink.new)) }
+    ensures illegal { result ≡ 1 → Took illegal_journals (map string_bytes words.now) (S.left source.old) (S.left source.new) (K.written sink.old) (K.written sink.new) }
     ensures words { result ≡ 2 → Took words_fault (map string_bytes words.now) (S.left source.old) (S.left source.new) (K.written sink.old) (K.written sink.new) }
-    ensures unread { result ≡ 3 → (Took text_fault (map string_bytes words.now) (S.left source.old) (S.left source.new) (K.written sink.old) (K.written sink.new)) ⊎ (Took unbuilt_fault (map string_bytes words.now) (S.left source.old) (S.left source.new) (K.written sink.old) (K.written sink.new)) }
+    ensures unread { result ≡ 3 → (Took text_fault (map string_bytes words.now) (S.left source.old) (S.left source.new) (K.written sink.old) (K.written sink.new)) ⊎ ((Took unbuilt_fault (map string_bytes words.now) (S.left source.old) (S.left source.new) (K.written sink.old) (K.written sink.new)) ⊎ (Took journals_fault (map string_bytes words.now) (S.left source.old) (S.left source.new) (K.written sink.old) (K.written sink.new))) }
     ensures source { result ≡ 4 → Rose (S.faults source.old) (S.faults source.new) × (sink.new ≡ sink.old) }
     ensures sink { result ≡ 5 → Rose (K.faults sink.old) (K.faults sink.new) × TookFront (map string_bytes words.now) (S.left source.old) (S.left source.new) (K.written sink.old) (K.written sink.new) }
     ensures memory { result ≡ 7 → sink.new ≡ sink.old }
 
     // The words alone decide on status 2, before any read.
     ensures step { IsStep (map string_bytes words.now) → result ≢ 2 }
-    ensures no_step { (IsStep (map string_bytes words.now) → ⊥) → ((result ≡ 2) ⊎ (result ≡ 5)) × (source.new ≡ source.old) }
+    ensures check { IsCheck (map string_bytes words.now) → result ≢ 2 }
+    ensures neither { (IsStep (map string_bytes words.now) → ⊥) → (IsCheck (map string_bytes words.now) → ⊥) → ((result ≡ 2) ⊎ (result ≡ 5)) × (source.new ≡ source.old) }
     ensures complete { IsStep (map string_bytes words.now) → IsScript (S.left source.old)
         → (Rose (S.faults source.old) (S.faults source.new) → ⊥) → (Rose (K.faults sink.old) (K.faults sink.new) → ⊥) → (result ≡ 0) ⊎ (result ≡ 7) }
-    ensures listed { Contains (0 ∷ 2 ∷ 3 ∷ 4 ∷ 5 ∷ 7 ∷ []) result }
+
+    // Where neither count rose, journals are told to be legal exactly where they are.
+    ensures right { (journals : List Named) → IsCheck (map string_bytes words.now) → HasJournals (S.left source.old) journals → AreLegal journals
+        → (Rose (S.faults source.old) (S.faults source.new) → ⊥) → (Rose (K.faults sink.old) (K.faults sink.new) → ⊥) → (result ≡ 0) ⊎ (result ≡ 7) }
+    ensures wrong { (journals : List Named) → IsCheck (map string_bytes words.now) → HasJournals (S.left source.old) journals → (AreLegal journals → ⊥)
+        → (Rose (S.faults source.old) (S.faults source.new) → ⊥) → (Rose (K.faults sink.old) (K.faults sink.new) → ⊥) → (result ≡ 1) ⊎ (result ≡ 7) }
+    ensures listed { Contains (0 ∷ 1 ∷ 2 ∷ 3 ∷ 4 ∷ 5 ∷ 7 ∷ []) result }
 {
     status(run(alloc, words, source, sink))
 }
@@ -51,6 +64,7 @@ pub fn alone<S: Source, K: Sink>(
 /// How a command ended.
 enum Ended {
     Written,
+    Illegal,
     Words,
     Unread,
     Source,
@@ -63,6 +77,7 @@ fn status(ended: Ended) -> u8
 {
     match ended {
         Ended::Written => 0,
+        Ended::Illegal => 1,
         Ended::Words => 2,
         Ended::Unread => 3,
         Ended::Source => 4,
@@ -72,21 +87,46 @@ fn status(ended: Ended) -> u8
 }
 
 fn run<S: Source, K: Sink>(alloc: Global, words: &[String], source: &mut S, sink: &mut K) -> Ended
-    ensures done { result ≡ Ended.Written → Took whole_journals (map string_bytes words.now) (S.left source.old) (S.left source.new) (K.written sink.old) (K.written sink.new) }
+    ensures done { result ≡ Ended.Written → (Took whole_journals (map string_bytes words.now) (S.left source.old) (S.left source.new) (K.written sink.old) (K.written sink.new)) ⊎ (Took legal_journals (map string_bytes words.now) (S.left source.old) (S.left source.new) (K.written sink.old) (K.written sink.new)) }
+    ensures illegal { result ≡ Ended.Illegal → Took illegal_journals (map string_bytes words.now) (S.left source.old) (S.left source.new) (K.written sink.old) (K.written sink.new) }
     ensures words { result ≡ Ended.Words → Took words_fault (map string_bytes words.now) (S.left source.old) (S.left source.new) (K.written sink.old) (K.written sink.new) }
-    ensures unread { result ≡ Ended.Unread → (Took text_fault (map string_bytes words.now) (S.left source.old) (S.left source.new) (K.written sink.old) (K.written sink.new)) ⊎ (Took unbuilt_fault (map string_bytes words.now) (S.left source.old) (S.left source.new) (K.written sink.old) (K.written sink.new)) }
+    ensures unread { result ≡ Ended.Unread → (Took text_fault (map string_bytes words.now) (S.left source.old) (S.left source.new) (K.written sink.old) (K.written sink.new)) ⊎ ((Took unbuilt_fault (map string_bytes words.now) (S.left source.old) (S.left source.new) (K.written sink.old) (K.written sink.new)) ⊎ (Took journals_fault (map string_bytes words.now) (S.left source.old) (S.left source.new) (K.written sink.old) (K.written sink.new))) }
     ensures source { result ≡ Ended.Source → Rose (S.faults source.old) (S.faults source.new) × (sink.new ≡ sink.old) }
     ensures sink { result ≡ Ended.Sink → Rose (K.faults sink.old) (K.faults sink.new) × TookFront (map string_bytes words.now) (S.left source.old) (S.left source.new) (K.written sink.old) (K.written sink.new) }
     ensures memory { result ≡ Ended.Memory → sink.new ≡ sink.old }
     ensures step { IsStep (map string_bytes words.now) → result ≢ Ended.Words }
-    ensures no_step { (IsStep (map string_bytes words.now) → ⊥) → ((result ≡ Ended.Words) ⊎ (result ≡ Ended.Sink)) × (source.new ≡ source.old) }
+    ensures check { IsCheck (map string_bytes words.now) → result ≢ Ended.Words }
+    ensures neither { (IsStep (map string_bytes words.now) → ⊥) → (IsCheck (map string_bytes words.now) → ⊥) → ((result ≡ Ended.Words) ⊎ (result ≡ Ended.Sink)) × (source.new ≡ source.old) }
 {
-    if !is_step(words) {
-        return match push_all(sink, b"words\n") {
-            Ok(()) => Ended::Words,
-            Err(_) => Ended::Sink,
-        };
+    if is_word(words, "step") {
+        return run_step(alloc, source, sink);
     }
+    if is_word(words, "check") {
+        return run_check(alloc, source, sink);
+    }
+    match push_all(sink, b"words\n") {
+        Ok(()) => Ended::Words,
+        Err(_) => Ended::Sink,
+    }
+}
+
+fn is_word(words: &[String], wanted: &str) -> bool
+    ensures { IsTrue result ↔ (map string_bytes words.now ≡ wanted.now ∷ []) }
+{
+    match words {
+        [word] => word.as_str() == wanted,
+        _ => false,
+    }
+}
+
+fn run_step<S: Source, K: Sink>(alloc: Global, source: &mut S, sink: &mut K) -> Ended
+    ensures done { (words : List (List ℕ)) → IsStep words → result ≡ Ended.Written → Took whole_journals words (S.left source.old) (S.left source.new) (K.written sink.old) (K.written sink.new) }
+    ensures unread { (words : List (List ℕ)) → IsStep words → result ≡ Ended.Unread → (Took text_fault words (S.left source.old) (S.left source.new) (K.written sink.old) (K.written sink.new)) ⊎ (Took unbuilt_fault words (S.left source.old) (S.left source.new) (K.written sink.old) (K.written sink.new)) }
+    ensures source { result ≡ Ended.Source → Rose (S.faults source.old) (S.faults source.new) × (sink.new ≡ sink.old) }
+    ensures sink { (words : List (List ℕ)) → IsStep words → result ≡ Ended.Sink → Rose (K.faults sink.old) (K.faults sink.new) × TookFront words (S.left source.old) (S.left source.new) (K.written sink.old) (K.written sink.new) }
+    ensures memory { result ≡ Ended.Memory → sink.new ≡ sink.old }
+    ensures others { (result ≢ Ended.Words) × (result ≢ Ended.Illegal) }
+{
     let answer = match step(alloc, source) {
         Ok(answer) => answer,
         Err(Stop::Source) => return Ended::Source,
@@ -108,12 +148,33 @@ fn run<S: Source, K: Sink>(alloc: Global, words: &[String], source: &mut S, sink
     }
 }
 
-fn is_step(words: &[String]) -> bool
-    ensures { IsTrue result ↔ IsStep (map string_bytes words.now) }
+fn run_check<S: Source, K: Sink>(alloc: Global, source: &mut S, sink: &mut K) -> Ended
+    ensures done { (words : List (List ℕ)) → IsCheck words → result ≡ Ended.Written → Took legal_journals words (S.left source.old) (S.left source.new) (K.written sink.old) (K.written sink.new) }
+    ensures illegal { (words : List (List ℕ)) → IsCheck words → result ≡ Ended.Illegal → Took illegal_journals words (S.left source.old) (S.left source.new) (K.written sink.old) (K.written sink.new) }
+    ensures unread { (words : List (List ℕ)) → IsCheck words → result ≡ Ended.Unread → Took journals_fault words (S.left source.old) (S.left source.new) (K.written sink.old) (K.written sink.new) }
+    ensures source { result ≡ Ended.Source → Rose (S.faults source.old) (S.faults source.new) × (sink.new ≡ sink.old) }
+    ensures sink { (words : List (List ℕ)) → IsCheck words → result ≡ Ended.Sink → Rose (K.faults sink.old) (K.faults sink.new) × TookFront words (S.left source.old) (S.left source.new) (K.written sink.old) (K.written sink.new) }
+    ensures memory { result ≡ Ended.Memory → sink.new ≡ sink.old }
+    ensures others { result ≢ Ended.Words }
 {
-    match words {
-        [word] => word.as_str() == "step",
-        _ => false,
+    let judgement = match judge(alloc, source) {
+        Ok(judgement) => judgement,
+        Err(Stop::Source) => return Ended::Source,
+        Err(Stop::Memory) => return Ended::Memory,
+    };
+    match judgement {
+        Judgement::Legal(text) => match push_all(sink, text.as_slice()) {
+            Ok(()) => Ended::Written,
+            Err(_) => Ended::Sink,
+        },
+        Judgement::Illegal(text) => match push_all(sink, text.as_slice()) {
+            Ok(()) => Ended::Illegal,
+            Err(_) => Ended::Sink,
+        },
+        Judgement::Fault(text) => match push_all(sink, text.as_slice()) {
+            Ok(()) => Ended::Unread,
+            Err(_) => Ended::Sink,
+        },
     }
 }
 
@@ -125,7 +186,7 @@ enum Answer {
 }
 
 /// Why there is nothing to tell.
-enum Stop {
+pub enum Stop {
     Source,
     Memory,
 }

@@ -1,4 +1,3 @@
-mod Rows
-pub mod Bools
-pub mod Waiting
-pub mod Holding
+pub mod Lookback
+pub mod PageRuns
+pub mod Runs

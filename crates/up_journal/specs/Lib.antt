@@ -1,12 +1,2 @@
-pub mod Written
-pub mod Attempts
-pub mod Size
-pub mod Value
-pub mod Roles
-pub mod Asks
-pub mod Packets
-pub mod Tickets
-pub mod Parked
-pub mod Reply
-pub mod Legal
-pub mod Laws
+pub mod Slow
+pub mod Tested

@@ -1,12 +1,10 @@
-//! The journal of an object: the entries that its calls leave, the log that keeps them, and (in `specs/`)
-//! the definitions that say what each call answers after a journal.
+//! What each call answers after a journal: the definitions of `up_model` as a plain program over the entries alone. The
+//! journal's types are passed on.
 #![tactic(auto)]
 
-mod entry;
-pub mod laws;
-mod log;
-#[cfg(test)]
-mod tests;
+mod slow;
 
-pub use entry::{Birth, Brought, Call, Entries, Entry, HintKind, Reply, Role, Told};
-pub use log::Log;
+pub use slow::{is_proper, reply_slow};
+pub use up_model::{
+    Birth, Brought, Call, Entries, Entry, HintKind, Log, Reply, Role, Told, causes, laws, positions,
+};

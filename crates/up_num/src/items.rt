@@ -31,6 +31,24 @@ impl<T> Model for Items<T> {
     ghost view = { λ seen. seen.items.items };
 }
 
+impl<T: PartialEq> PartialEq for Items<T> {
+    ghost use Rattle.std.specs.Cmp.Lexicographic.{pointwise, lists_per};
+
+    ghost eq = { λ a b. pointwise T.eq a b };
+
+    ghost laws = { lists_per T.laws };
+
+    fn eq(&self, other: &Self) -> bool {
+        self.items == other.items
+    }
+}
+
+impl<T: Eq> Eq for Items<T> {
+    ghost use Rattle.std.specs.Cmp.Lexicographic.{lists_equiv};
+
+    ghost laws = { lists_equiv T.Eq.laws };
+}
+
 impl<T> Items<T> {
     /// The empty list. It takes no memory.
     pub fn new(alloc: Global) -> Self

@@ -2,9 +2,9 @@
 use Rattle.std.specs.Prelude.{ℕ, ◌+◌, ◌-◌, ◌*◌, ◌==◌, ◌&&◌, ◌++◌, Bool, true, false, not, List, [], ◌∷◌, Option, Some, None, Result, Ok, length, nat_le, slice_get}
 use Rattle.std.specs.List.{list_any}
 use Rattle.up_num.specs.Span.{Span}
-use Rattle.up_journal.specs.declared.entry.Brought.TheVariants.{Nothing}
-use Rattle.up_journal.specs.declared.entry.Call.{Call}
-use Rattle.up_journal.specs.declared.entry.Call.TheVariants as calls
+use Rattle.up_model.specs.declared.entry.Brought.TheVariants.{Nothing}
+use Rattle.up_model.specs.declared.entry.Call.{Call}
+use Rattle.up_model.specs.declared.entry.Call.TheVariants as calls
 use Rattle.up_words.specs.Steps.{◌>>=◌, check, or_why}
 use Rattle.up_words.specs.Words.{word_at}
 use Rattle.up_words.specs.Numbers.{number_between}

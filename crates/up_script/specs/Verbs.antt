@@ -1,15 +1,14 @@
 -- The verbs of the lines of actors.
 use Rattle.std.specs.Prelude.{ℕ, ◌&&◌, Bool, true, false, cond, not, List, Option, Some, None, codes}
-use Rattle.std.specs.Str.{bytes_eq}
+use Rattle.up_words.specs.Refusals.{code_in}
 use Rattle.up_num.specs.Span.{Span}
 use Rattle.up_num.specs.declared.answers.Code.{Code}
-use Rattle.up_num.specs.declared.answers.Code.TheVariants as code
-use Rattle.up_journal.specs.declared.entry.Brought.TheVariants.{Nothing}
-use Rattle.up_journal.specs.declared.entry.Call.{Call}
-use Rattle.up_journal.specs.declared.entry.Call.TheVariants as calls
-use Rattle.up_journal.specs.declared.entry.HintKind.TheVariants as hints
-use Rattle.up_journal.specs.declared.entry.Role.{Role}
-use Rattle.up_journal.specs.declared.entry.Role.TheVariants as roles
+use Rattle.up_model.specs.declared.entry.Brought.TheVariants.{Nothing}
+use Rattle.up_model.specs.declared.entry.Call.{Call}
+use Rattle.up_model.specs.declared.entry.Call.TheVariants as calls
+use Rattle.up_model.specs.declared.entry.HintKind.TheVariants as hints
+use Rattle.up_model.specs.declared.entry.Role.{Role}
+use Rattle.up_model.specs.declared.entry.Role.TheVariants as roles
 use Rattle.up_words.specs.Words.{word_at, word_is, verb_is}
 use Rattle.up_script.specs.Objects.{is_user, is_pager, is_worker, is_evictor}
 use Rattle.up_script.specs.declared.script.Kind.{Kind}
@@ -22,15 +21,7 @@ use Rattle.up_script.specs.declared.verbs.Over.TheVariants as over
 use Rattle.up_script.specs.declared.verbs.Verb.{Verb}
 use Rattle.up_script.specs.declared.verbs.Verb.TheVariants.{Alone, OnObject}
 
--- the code of a fail
-abbrev pub code_in : List ℕ → Option Code
-code_in word =
-    cond (bytes_eq word (codes "io")) (Some code.Io)
-    (cond (bytes_eq word (codes "io-data-integrity")) (Some code.IoDataIntegrity)
-    (cond (bytes_eq word (codes "bad-state")) (Some code.BadState)
-    (cond (bytes_eq word (codes "no-space")) (Some code.NoSpace)
-    (cond (bytes_eq word (codes "buffer-too-small")) (Some code.BufferTooSmall) None))))
-
+-- a fail with the code that its word spells
 abbrev pub fail_verb : Option Code → Option On
 fail_verb None = None
 fail_verb (Some code) = Some (on.Range (over.Fail code))

@@ -10,7 +10,7 @@ use crate::actors::{Actors, is_in};
 use crate::objects::Objects;
 use crate::script::{ActorLine, Kind, Numbers, ObjectLine};
 use std::alloc::Global;
-use up_journal::Birth;
+use up_model::Birth;
 use up_num::{Bytes, Items, Memory};
 use up_words::{Stop, Why, Words, read_between, spells_name};
 

@@ -7,7 +7,7 @@ use crate::declarations::Declared;
 use crate::script::{Action, Kind};
 use crate::verbs::{Lone, On, Over, Verb, role_in};
 use std::alloc::Global;
-use up_journal::{Brought, Call};
+use up_model::{Brought, Call};
 use up_num::{PageNo, PageRange};
 use up_words::{Stop, Words, read_between, read_bytes};
 

@@ -8,7 +8,7 @@ use crate::actors::Actors;
 use crate::script::{ObjectLine, ObjectLines};
 use std::alloc::Global;
 use std::marker::Model;
-use up_journal::Birth;
+use up_model::Birth;
 use up_num::{Items, Memory};
 use up_words::Stop;
 

@@ -5,7 +5,7 @@ ghost use Rattle.up_script.specs.Reading.{nothing_played};
 
 use crate::script::{Action, Line, Lines};
 use std::alloc::Global;
-use up_journal::Call;
+use up_model::Call;
 use up_num::{Items, Memory};
 
 /// The greatest number of bytes that all lines together read, write and supply.

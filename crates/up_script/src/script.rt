@@ -1,4 +1,4 @@
-use up_journal::{Birth, Call};
+use up_model::{Birth, Call};
 use up_num::{Bytes, Items};
 
 /// The objects that a script declares, in order.

@@ -1,7 +1,7 @@
 use crate::{Action, Kind, ReadFault, Why, read_script};
 use std::alloc::{AllocError, Global};
 use std::test::Fail;
-use up_journal::{Birth, Brought, Call, HintKind, Role};
+use up_model::{Birth, Brought, Call, HintKind, Role};
 use up_num::{Code, PageNo, PageRange};
 
 /// A script with every form of a declaration. Its actions come behind.

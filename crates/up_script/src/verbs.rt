@@ -1,10 +1,11 @@
 ghost use Rattle.std.specs.Prelude.{◌≡◌};
-ghost use Rattle.up_script.specs.Verbs.{or_on, fail_verb, code_in, user_verb, pager_verb, other_verb, lone_verb, verb_of, is_user_range, says_on, says_alone, says, call_over, role_of};
+ghost use Rattle.up_words.specs.Refusals.{code_in};
+ghost use Rattle.up_script.specs.Verbs.{or_on, fail_verb, user_verb, pager_verb, other_verb, lone_verb, verb_of, is_user_range, says_on, says_alone, says, call_over, role_of};
 
 use crate::script::Kind;
-use up_journal::{Brought, Call, HintKind, Role};
+use up_model::{Brought, Call, HintKind, Role};
 use up_num::{Code, PageRange};
-use up_words::Words;
+use up_words::{Words, spelled_code};
 
 /// What is done on no object.
 #[derive(Clone, Copy, PartialEq, Eq, Debug)]
@@ -58,24 +59,6 @@ pub enum Verb {
     OnObject(On),
 }
 
-fn read_code(word: &[u8]) -> Option<Code>
-    ensures { result ≡ code_in word.now }
-{
-    if word == b"io".as_slice() {
-        Some(Code::Io)
-    } else if word == b"io-data-integrity".as_slice() {
-        Some(Code::IoDataIntegrity)
-    } else if word == b"bad-state".as_slice() {
-        Some(Code::BadState)
-    } else if word == b"no-space".as_slice() {
-        Some(Code::NoSpace)
-    } else if word == b"buffer-too-small".as_slice() {
-        Some(Code::BufferTooSmall)
-    } else {
-        None
-    }
-}
-
 fn read_user_verb(words: &Words<'_>) -> Option<On>
     ensures { result ≡ user_verb words.now }
 {
@@ -107,7 +90,7 @@ fn read_user_verb(words: &Words<'_>) -> Option<On>
 fn read_fail_verb(word: &[u8]) -> Option<On>
     ensures { result ≡ fail_verb (code_in word.now) }
 {
-    match read_code(word) {
+    match spelled_code(word) {
         None => None,
         Some(code) => Some(On::Range(Over::Fail(code))),
     }

@@ -1,11 +1,6 @@
--- Lists by place, and tests on outcomes.
-use Rattle.std.proofs.Common.{◌≡◌, ℕ, ◌<◌, ◌&&◌, ◌==◌, Bool, true, false, cond, Option, Some, None, List, [], ◌∷◌, ◌++◌, length, zero, suc, slice_get, slice_set, option_map, refl, ap, sym, ◌∙◌, arith}
+-- Lists by place.
+use Rattle.std.proofs.Common.{◌≡◌, ℕ, ◌<◌, ◌&&◌, ◌==◌, Bool, true, false, cond, Option, Some, List, [], ◌∷◌, ◌++◌, length, zero, suc, slice_get, slice_set, option_map, refl, ap, sym, ◌∙◌, arith}
 use Rattle.std.proofs.lemmas.Bool.Decides.{nat_tests}
-use Rattle.up_num.specs.declared.answers.AskKind.{AskKind}
-use Rattle.up_num.specs.declared.answers.Outcome.{Outcome}
-use Rattle.up_num.specs.declared.answers.Outcome.TheVariants.{Waiting, Freed, Failed, Detached, Shrunk}
-use Rattle.up_journal.specs.Asks.{Ask}
-use Rattle.up_journal.specs.Tickets.{resolved_for, then_outcome}
 
 pub zero_is_no_suc : (t : ℕ) → (0 == suc t) ≡ false
 zero_is_no_suc t = grind (arith, nat_tests)
@@ -35,18 +30,6 @@ at_set-same g (y ∷ ys) (suc n) old new (suc t) is same = at_set-same g ys n ol
 pub option_map-cond : {X Y : Type 0} (f : X → Y) (b : Bool) (x y : Option X) → option_map f (cond b x y) ≡ cond b (option_map f x) (option_map f y)
 option_map-cond f true x y = refl
 option_map-cond f false x y = refl
-
--- where nothing is resolved, no outcome changes
-pub resolved_for-none : (ask : Option Ask) → resolved_for (λ (_ : AskKind) (_ : ℕ). Waiting) ask ≡ Waiting
-resolved_for-none None = refl
-resolved_for-none (Some ask) = refl
-
-pub then_outcome-waiting : (outcome : Outcome) → then_outcome outcome Waiting ≡ outcome
-then_outcome-waiting Waiting = refl
-then_outcome-waiting Freed = refl
-then_outcome-waiting (Failed code) = refl
-then_outcome-waiting Detached = refl
-then_outcome-waiting Shrunk = refl
 
 pub is_item : {X : Type 0} (xs : List X) (n : ℕ) → n < length xs → (x : X) × (slice_get xs n ≡ Some x)
 is_item [] n lt = absurd (omega arith)

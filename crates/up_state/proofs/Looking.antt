@@ -3,12 +3,12 @@ use Rattle.std.proofs.Common.{◌≡◌, ℕ, ◌+◌, ◌<◌, ◌≤◌, Some,
 use Rattle.std.proofs.lemmas.List.{drop_more}
 use Rattle.up_num.specs.declared.answers.AskKind.{AskKind}
 use Rattle.up_num.specs.declared.answers.Outcome.{Outcome}
-use Rattle.up_journal.specs.Value.{value, bytes_from}
-use Rattle.up_journal.specs.Asks.{resolves}
-use Rattle.up_journal.specs.Tickets.{outcome, waits, wakes, woken, woken_from}
-use Rattle.up_journal.specs.declared.entry.Birth.{Birth}
-use Rattle.up_journal.specs.declared.entry.Call.{Call}
-use Rattle.up_journal.specs.declared.entry.Entry.{Entry}
+use Rattle.up_model.specs.Value.{value, bytes_from}
+use Rattle.up_model.specs.Asks.{resolves}
+use Rattle.up_model.specs.Tickets.{outcome, waits, wakes, woken, woken_from}
+use Rattle.up_model.specs.declared.entry.Birth.{Birth}
+use Rattle.up_model.specs.declared.entry.Call.{Call}
+use Rattle.up_model.specs.declared.entry.Entry.{Entry}
 use Rattle.up_state.specs.declared.asking.Ticket.{Ticket}
 use Rattle.up_state.specs.declared.page.Page.TheVariants.{Held}
 use Rattle.up_state.specs.Asking.{ask_of, resolves_ticket, woken_among}

@@ -5,17 +5,18 @@ use Rattle.up_num.specs.declared.answers.Outcome.TheVariants.{Waiting}
 use Rattle.std.proofs.lemmas.List.{append-nil}
 use Rattle.up_num.specs.declared.answers.Packet.{Packet}
 use Rattle.up_num.specs.declared.answers.Packet.TheVariants.{Read as ReadPacket}
-use Rattle.up_journal.specs.Attempts.{attempt}
-use Rattle.up_journal.specs.Asks.{Ask, asked, want}
-use Rattle.up_journal.specs.Packets.{requested, packet_of}
-use Rattle.up_journal.specs.declared.entry.Birth.{Birth}
-use Rattle.up_journal.specs.declared.entry.Entry.{Entry}
+use Rattle.up_model.specs.Attempts.{accepts, attempt}
+use Rattle.up_model.specs.Asks.{Ask, asked, want}
+use Rattle.up_model.specs.Packets.{requested, packet_of}
+use Rattle.up_model.specs.declared.entry.Birth.{Birth}
+use Rattle.up_model.specs.declared.entry.Entry.{Entry}
 use Rattle.up_state.specs.declared.asking.Ticket.{Ticket}
 use Rattle.up_state.specs.Asking.{Asks, ask_of, parked_in}
 use Rattle.up_state.specs.Stands.{AsksStand, TicketsStand, outcome_in, spent_in}
 use Rattle.up_state.specs.declared.page.Page.{Page}
 use Rattle.up_state.specs.Change.{Parks, ChangeStandsFor}
-use Rattle.up_state.proofs.Lists.{slice_get-push, option_map-cond, resolved_for-none, then_outcome-waiting}
+use Rattle.up_state.proofs.Lists.{slice_get-push, option_map-cond}
+use Rattle.up_model.proofs.Steps.{outcome_kept, resolved_refused}
 
 -- what it asks for, as the ticket keeps it
 wanted_by : (birth : Birth) (e : Entry) (h : List Entry) (ticket : Ticket) → Parks birth e h ticket →
@@ -66,7 +67,7 @@ tickets_parked birth tickets e h ticket s p = record {
   accesses = λ t. rw (p.blocked, p.attempted, s.accesses t, slice_get-push, s.count, option_map-cond) refl;
   wants = λ t. rw (p.blocked, wanted_by birth e h ticket p, s.wants t, slice_get-push, s.count, option_map-cond) refl;
   owners = λ t. rw (p.blocked, p.holder, s.owners t, slice_get-push, s.count, option_map-cond) refl;
-  outcomes = λ t. rw (p.blocked, resolved_for-none, then_outcome-waiting, s.outcomes t) (sym (outcome_pushed tickets ticket t p.waiting));
+  outcomes = λ t. outcome_kept birth e h t (λ kind page. resolved_refused birth e h kind page (ap accepts p.blocked)) ∙ s.outcomes t ∙ sym (outcome_pushed tickets ticket t p.waiting);
 }
 
 asks_parked : (birth : Birth) (a : Asks) (e : Entry) (h : List Entry) (ticket : Ticket) →

@@ -5,13 +5,10 @@ use Rattle.std.proofs.lemmas.Option.{slice_get-map}
 use Rattle.up_num.specs.declared.answers.AskKind.{AskKind}
 use Rattle.up_num.specs.declared.answers.AskKind.TheVariants.{Read as ReadAsk}
 use Rattle.up_num.specs.declared.answers.Outcome.{Outcome}
-use Rattle.up_journal.specs.Attempts.{accepts, is_blocked, blocks}
-use Rattle.up_journal.specs.Asks.{asked, resolved, is_waiting}
-use Rattle.up_journal.specs.Tickets.{resolved_for, then_outcome}
-use Rattle.up_journal.specs.declared.entry.Birth.{Birth}
-use Rattle.up_journal.specs.declared.entry.Entry.{Entry}
-use Rattle.up_journal.specs.declared.entry.Reply.{Reply}
-use Rattle.up_journal.specs.declared.entry.Reply.TheVariants.{Blocked}
+use Rattle.up_model.specs.Asks.{asked, resolved, is_waiting}
+use Rattle.up_model.specs.Tickets.{resolved_for, then_outcome}
+use Rattle.up_model.specs.declared.entry.Birth.{Birth}
+use Rattle.up_model.specs.declared.entry.Entry.{Entry}
 use Rattle.up_state.specs.declared.asking.Ticket.{Ticket}
 use Rattle.up_state.specs.declared.asking.Event.{Event}
 use Rattle.up_state.specs.declared.page.Page.{Page}
@@ -19,15 +16,7 @@ use Rattle.up_state.specs.Asking.{Asks, access_of, ask_of, event_of, ticket_afte
 use Rattle.up_state.specs.Stands.{AsksStand, TicketsStand, outcome_in, spent_in}
 use Rattle.up_state.specs.Change.{Happens, ChangeStandsFor}
 use Rattle.up_state.proofs.Lists.{and_swap}
-
--- an accepted call parks nothing
-accepted_not_blocked : (reply : Reply) → accepts reply ≡ true → is_blocked reply ≡ false
-accepted_not_blocked (Blocked ticket) a = absurd cc
-accepted_not_blocked _ a = refl
-
-accepted_blocks_none : (reply : Reply) (t : ℕ) → accepts reply ≡ true → blocks reply t ≡ false
-accepted_blocks_none (Blocked ticket) t a = absurd cc
-accepted_blocks_none _ t a = refl
+use Rattle.up_model.proofs.Steps.{accepted_parks_none, blocks_none}
 
 outcome_after : (g f : AskKind → ℕ → Outcome) → ((kind : AskKind) (p : ℕ) → g kind p ≡ f kind p) → (x : Option Ticket) →
     then_outcome (outcome_in x) (resolved_for g (option_map ask_of x)) ≡ outcome_in (option_map (ticket_after f) x)
@@ -58,19 +47,19 @@ resolved_is birth e h event p kind page = rw p.accepted (p.each kind page)
 tickets_resolved : (birth : Birth) (tickets : List Ticket) (e : Entry) (h : List Entry) (event : Event) →
     TicketsStand tickets birth h → Happens birth e h event → TicketsStand (map (ticket_after (event_of event)) tickets) birth (e ∷ h)
 tickets_resolved birth tickets e h event s p =
-    let unblocked = accepted_not_blocked e.reply p.accepted in
+    let unblocked = accepted_parks_none e.reply p.accepted in
     let f : AskKind → ℕ → Outcome = event_of event in record {
       count = rw (length-map, unblocked) s.count;
-      accesses = λ t. rw (accepted_blocks_none e.reply t p.accepted, slice_get-map, access_after f (slice_get tickets t)) (s.accesses t);
-      wants = λ t. rw (accepted_blocks_none e.reply t p.accepted, slice_get-map, ask_after f (slice_get tickets t)) (s.wants t);
-      owners = λ t. rw (accepted_blocks_none e.reply t p.accepted, slice_get-map, who_after f (slice_get tickets t)) (s.owners t);
+      accesses = λ t. rw (blocks_none e.reply t unblocked, slice_get-map, access_after f (slice_get tickets t)) (s.accesses t);
+      wants = λ t. rw (blocks_none e.reply t unblocked, slice_get-map, ask_after f (slice_get tickets t)) (s.wants t);
+      owners = λ t. rw (blocks_none e.reply t unblocked, slice_get-map, who_after f (slice_get tickets t)) (s.owners t);
       outcomes = λ t. rw (slice_get-map, s.outcomes t, s.wants t) (outcome_after (resolved birth h e) f (resolved_is birth e h event p) (slice_get tickets t));
     }
 
 asks_resolved : (birth : Birth) (a : Asks) (e : Entry) (h : List Entry) (event : Event) →
     AsksStand a birth h → Happens birth e h event → AsksStand (resolved_by a event) birth (e ∷ h)
 asks_resolved birth a e h event s p =
-    let unblocked = accepted_not_blocked e.reply p.accepted in record {
+    let unblocked = accepted_parks_none e.reply p.accepted in record {
       read = rw (unblocked, p.accepted, p.each ReadAsk 0, s.read) (and_swap (asked birth h ReadAsk 0) (is_waiting (event_of event ReadAsk 0)));
       packets = rw unblocked s.packets;
       taking = rw p.no_packet s.taking;

@@ -1,7 +1,7 @@
 -- A retry that is answered for good spends its ticket.
 use Rattle.std.proofs.Common.{length-set, ◌≡◌, ℕ, ◌<◌, ◌||◌, ◌==◌, Bool, true, false, Some, List, [], ◌∷◌, length, zero, suc, slice_get, slice_set, option_map, refl, ap, sym, ◌∙◌, arith}
-use Rattle.up_journal.specs.declared.entry.Birth.{Birth}
-use Rattle.up_journal.specs.declared.entry.Entry.{Entry}
+use Rattle.up_model.specs.declared.entry.Birth.{Birth}
+use Rattle.up_model.specs.declared.entry.Entry.{Entry}
 use Rattle.up_state.specs.declared.asking.Ticket.{Ticket}
 use Rattle.up_state.specs.declared.page.Page.{Page}
 use Rattle.up_state.specs.Asking.{Asks, access_of, ask_of}

@@ -7,9 +7,9 @@ use Rattle.up_num.specs.declared.answers.Outcome.{Outcome}
 use Rattle.up_num.specs.declared.answers.Outcome.TheVariants.{Waiting}
 use Rattle.up_num.specs.declared.answers.Packet.{Packet}
 use Rattle.up_num.specs.declared.answers.Packet.TheVariants.{Read as ReadPacket}
-use Rattle.up_journal.specs.Attempts.{Access}
-use Rattle.up_journal.specs.Asks.{Ask, same_kind, is_waiting}
-use Rattle.up_journal.specs.Tickets.{then_outcome}
+use Rattle.up_model.specs.Attempts.{Access}
+use Rattle.up_model.specs.Asks.{Ask, same_kind, is_waiting}
+use Rattle.up_model.specs.Tickets.{then_outcome}
 use Rattle.up_state.specs.declared.asking.Ticket.{Ticket}
 use Rattle.up_state.specs.declared.asking.Event.{Event}
 

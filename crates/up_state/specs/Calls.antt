@@ -2,17 +2,17 @@
 use Rattle.std.specs.Prelude.{◌≡◌, ℕ, Result, IfOk, OnOk, OnErr, List, false}
 use Rattle.up_num.specs.declared.pages.Piece.{Piece}
 use Rattle.up_num.specs.declared.pages.PageNo.{PageNo}
-use Rattle.up_journal.specs.declared.entry.Brought.TheVariants.{Nothing, Frames}
-use Rattle.up_journal.specs.declared.entry.Call.{Call}
-use Rattle.up_journal.specs.declared.entry.Call.TheVariants.{Read, Retry, Supply}
-use Rattle.up_journal.specs.declared.entry.Reply.{Reply}
+use Rattle.up_model.specs.declared.entry.Brought.TheVariants.{Nothing, Frames}
+use Rattle.up_model.specs.declared.entry.Call.{Call}
+use Rattle.up_model.specs.declared.entry.Call.TheVariants.{Read, Retry, Supply}
+use Rattle.up_model.specs.declared.entry.Reply.{Reply}
 use Rattle.up_num.specs.declared.answers.AskKind.TheVariants.{Read as ReadAsk}
 use Rattle.up_num.specs.declared.answers.Outcome.TheVariants.{Waiting, Freed}
 use Rattle.up_num.specs.Span.{Span}
 use Rattle.up_state.specs.declared.asking.Ticket.{Ticket}
 use Rattle.up_state.specs.declared.asking.Event.{Event}
-use Rattle.up_journal.specs.Legal.{Life, after}
-use Rattle.up_journal.specs.Reply.{reply}
+use Rattle.up_model.specs.Legal.{Life, after}
+use Rattle.up_model.specs.Reply.{reply}
 
 -- a read and a retry that bring no frame
 abbrev pub read_call : Piece → PageNo → Call

@@ -4,17 +4,17 @@ use Rattle.std.specs.Prelude.{◌≡◌, ℕ, ◌+◌, ◌*◌, ◌<◌, ◌||�
 use Rattle.up_num.specs.declared.answers.AskKind.{AskKind}
 use Rattle.up_num.specs.declared.answers.AskKind.TheVariants.{Read as ReadAsk}
 use Rattle.up_num.specs.declared.answers.Outcome.TheVariants.{Waiting}
-use Rattle.up_journal.specs.Attempts.{accepts, attempt, parked}
-use Rattle.up_journal.specs.Size.{size}
-use Rattle.up_journal.specs.Value.{value}
-use Rattle.up_journal.specs.Roles.{detached}
-use Rattle.up_journal.specs.Asks.{asked, want, resolves}
-use Rattle.up_journal.specs.Packets.{requested, taken, is_packet}
-use Rattle.up_journal.specs.Tickets.{next_ticket, owner, waits, spent, outcome}
-use Rattle.up_journal.specs.Reply.{proper, reply}
-use Rattle.up_journal.specs.declared.entry.Birth.{Birth}
-use Rattle.up_journal.specs.declared.entry.Entry.{Entry}
-use Rattle.up_journal.specs.declared.entry.Reply.TheVariants.{Blocked}
+use Rattle.up_model.specs.Attempts.{accepts, attempt, parked}
+use Rattle.up_model.specs.Size.{size}
+use Rattle.up_model.specs.Value.{value, marked, settled}
+use Rattle.up_model.specs.Roles.{detached}
+use Rattle.up_model.specs.Asks.{asked, want, resolves}
+use Rattle.up_model.specs.Packets.{requested, taken, is_packet}
+use Rattle.up_model.specs.Tickets.{next_ticket, owner, waits, spent, outcome}
+use Rattle.up_model.specs.Reply.{proper, reply}
+use Rattle.up_model.specs.declared.entry.Birth.{Birth}
+use Rattle.up_model.specs.declared.entry.Entry.{Entry}
+use Rattle.up_model.specs.declared.entry.Reply.TheVariants.{Blocked}
 use Rattle.up_state.specs.declared.asking.Ticket.{Ticket}
 use Rattle.up_state.specs.declared.asking.Event.{Event}
 use Rattle.up_state.specs.declared.page.Page.{Page}
@@ -45,9 +45,11 @@ pub record ChangeStandsFor (birth : Birth) (part : Page) (asks : Asks) (e : Entr
   pub asking : AsksStand asks birth (up_to asks_done e h)
   pub spends : SpentStand asks.tickets (up_to spent_done e h)
 
--- page p has the same bytes after both journals
-abbrev pub SamePage : Birth → List Entry → List Entry → ℕ → Type 0
-SamePage birth old new p = (i : ℕ) → i < 4096 → value birth new (4096 * p + i) ≡ value birth old (4096 * p + i)
+-- page p has the same bytes and state after both journals
+pub record SamePage (birth : Birth) (old new : List Entry) (p : ℕ) : Type 0 where
+  pub bytes : (i : ℕ) → i < 4096 → value birth new (4096 * p + i) ≡ value birth old (4096 * p + i)
+  pub marks : marked birth new p ≡ marked birth old p
+  pub rest : settled birth new p ≡ settled birth old p
 
 -- asks and tickets are the same after both journals
 pub record SameAsks (birth : Birth) (old new : List Entry) : Type 0 where
@@ -69,22 +71,17 @@ pub record KeepsRoles (birth : Birth) (e : Entry) (h : List Entry) : Type 0 wher
   pub one : size birth (e ∷ h) ≡ size birth h
   pub attached : detached birth (e ∷ h) ≡ detached birth h
 
--- the entry changes no part
-pub record IsQuiet (birth : Birth) (e : Entry) (h : List Entry) : Type 0 where
-  pub page : SamePage birth h (e ∷ h) 0
-  pub asks : SameAsks birth h (e ∷ h)
-  pub spent : SameSpent h (e ∷ h)
-  pub roles : KeepsRoles birth e h
-
 -- the entry is a proper call with the reply that is due
 pub record IsDue (birth : Birth) (e : Entry) (h : List Entry) : Type 0 where
   pub proper : IsTrue (proper h e.who e.call)
   pub answer : e.reply ≡ reply birth h e.who e.epoch e.call
 
--- the entry gives page p, which has no byte before it, these bytes
+-- the entry gives page p these bytes, which need no writeback
 pub record Fills (birth : Birth) (e : Entry) (h : List Entry) (p : ℕ) (bytes : List ℕ) : Type 0 where
   pub whole : length bytes ≡ 4096
   pub each : (i : ℕ) → i < 4096 → value birth (e ∷ h) (4096 * p + i) ≡ Some (slice_index bytes i)
+  pub marks : marked birth (e ∷ h) p ≡ false
+  pub rest : settled birth (e ∷ h) p ≡ settled birth h p
 
 -- the entry parks this ticket, for page 0
 pub record Parks (birth : Birth) (e : Entry) (h : List Entry) (ticket : Ticket) : Type 0 where

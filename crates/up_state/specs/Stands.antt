@@ -3,16 +3,16 @@ use Rattle.std.specs.Prelude.{◌≡◌, ℕ, ◌+◌, ◌*◌, ◌<◌, Bool, t
 use Rattle.up_num.specs.declared.answers.AskKind.TheVariants.{Read as ReadAsk}
 use Rattle.up_num.specs.declared.answers.Outcome.{Outcome}
 use Rattle.up_num.specs.declared.answers.Outcome.TheVariants.{Waiting}
-use Rattle.up_journal.specs.Attempts.{parked}
-use Rattle.up_journal.specs.Size.{size}
-use Rattle.up_journal.specs.Value.{value}
-use Rattle.up_journal.specs.Roles.{detached}
-use Rattle.up_journal.specs.Asks.{asked}
-use Rattle.up_journal.specs.Packets.{requested, taken}
-use Rattle.up_journal.specs.Tickets.{next_ticket, owner, waits, spent, outcome}
-use Rattle.up_journal.specs.Legal.{Legal}
-use Rattle.up_journal.specs.declared.entry.Birth.{Birth}
-use Rattle.up_journal.specs.declared.entry.Entry.{Entry}
+use Rattle.up_model.specs.Attempts.{parked}
+use Rattle.up_model.specs.Size.{size}
+use Rattle.up_model.specs.Value.{value, marked, settled}
+use Rattle.up_model.specs.Roles.{detached}
+use Rattle.up_model.specs.Asks.{asked}
+use Rattle.up_model.specs.Packets.{requested, taken}
+use Rattle.up_model.specs.Tickets.{next_ticket, owner, waits, spent, outcome}
+use Rattle.up_model.specs.Legal.{Legal}
+use Rattle.up_model.specs.declared.entry.Birth.{Birth}
+use Rattle.up_model.specs.declared.entry.Entry.{Entry}
 use Rattle.up_state.specs.declared.asking.Ticket.{Ticket}
 use Rattle.up_state.specs.declared.page.Page.{Page}
 use Rattle.up_state.specs.declared.page.Page.TheVariants.{Absent, Held}
@@ -32,10 +32,12 @@ abbrev pub IsWhole : Page → Type 0
 IsWhole Absent = Unit {0}
 IsWhole (Held bytes) = length bytes ≡ 4096
 
--- the page has the bytes that the journal gives page p
+-- the page has the bytes that the journal gives page p. It is no zero page, and nothing of it waits for a writeback.
 pub record PageStands (page : Page) (birth : Birth) (h : List Entry) (p : ℕ) : Type 0 where
   pub whole : IsWhole page
   pub bytes : (i : ℕ) → i < 4096 → content page i ≡ value birth h (4096 * p + i)
+  pub marks : marked birth h p ≡ false
+  pub rest : settled birth h p ≡ true
 
 abbrev pub outcome_in : Option Ticket → Outcome
 outcome_in None = Waiting

@@ -1,7 +1,7 @@
 ghost use Rattle.std.specs.Prelude.{◌≡◌, ◌+◌, ◌<◌, ◌≤◌, [], ◌∷◌, ◌++◌, false, true, cond, length, map, slice_get, slice_set, vec_len, IfOk, OnOk, OnErr};
 ghost use Rattle.std.specs.Vec.{vec_capacity};
-ghost use Rattle.up_journal.specs.Asks as asks;
-ghost use Rattle.up_journal.specs.Tickets as tickets;
+ghost use Rattle.up_model.specs.Asks as asks;
+ghost use Rattle.up_model.specs.Tickets as tickets;
 ghost use Rattle.up_num.specs.declared.answers.Packet.TheVariants.{Read as ReadPacket};
 ghost use Rattle.up_state.specs.declared.asking.Ticket.{Ticket as TicketValue};
 ghost use Rattle.up_state.specs.Asking.{Asks, parked_in, resolved_by, event_of, ticket_after, resolves_ticket, woken_among};

@@ -1,13 +1,13 @@
 ghost use Rattle.std.specs.Prelude.{◌≡◌, ◌+◌, ◌*◌, ◌<◌, true, false, nat_le, IsTrue, IfOk, OnOk, OnErr, Some};
 ghost use Rattle.up_num.specs.declared.answers.Outcome.TheVariants.{Freed as FreedOutcome};
-ghost use Rattle.up_journal.specs.declared.entry.Reply.TheVariants.{Refused as RefusedReply};
-ghost use Rattle.up_journal.specs.Attempts.{parked};
-ghost use Rattle.up_journal.specs.Size.{size};
-ghost use Rattle.up_journal.specs.Value.{there};
-ghost use Rattle.up_journal.specs.Roles.{detached};
-ghost use Rattle.up_journal.specs.Tickets as tickets;
-ghost use Rattle.up_journal.specs.Reply as replies;
-ghost use Rattle.up_journal.specs.Legal.{after};
+ghost use Rattle.up_model.specs.declared.entry.Reply.TheVariants.{Refused as RefusedReply};
+ghost use Rattle.up_model.specs.Attempts.{parked};
+ghost use Rattle.up_model.specs.Size.{size};
+ghost use Rattle.up_model.specs.Value.{there};
+ghost use Rattle.up_model.specs.Roles.{detached};
+ghost use Rattle.up_model.specs.Tickets as tickets;
+ghost use Rattle.up_model.specs.Reply as replies;
+ghost use Rattle.up_model.specs.Legal.{after};
 ghost use Rattle.up_state.specs.Asking.{access_of};
 ghost use Rattle.up_state.specs.Calls.{read_call, retry_call, ticket_for, Answers};
 
@@ -16,7 +16,7 @@ use crate::object::Object;
 use crate::parts::{By, note, open};
 use core::mem::replace_with;
 use std::alloc::Global;
-use up_journal::{Brought, Call, Entry, Reply};
+use up_model::{Brought, Call, Entry, Reply};
 use up_num::{AskKind, Memory, Outcome, PageNo, PageRange, Piece, Refusal};
 
 /// Reads a piece; `last` is the page in which the whole access ends. It answers `Bytes`; `Blocked` where the page

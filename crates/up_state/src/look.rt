@@ -1,14 +1,14 @@
 ghost use Rattle.std.specs.Prelude.{◌≡◌, ℕ, ◌+◌, ◌*◌, ◌<◌, ◌≤◌, true, false, nat_le, slice_get, Some, IfOk, IsSome, is_some};
 ghost use Rattle.up_num.specs.declared.answers.AskKind.{AskKind as AskKindValue};
-ghost use Rattle.up_journal.specs.declared.entry.Call.{Call as CallValue};
-ghost use Rattle.up_journal.specs.Attempts.{parked};
-ghost use Rattle.up_journal.specs.Size as sizes;
-ghost use Rattle.up_journal.specs.Value.{value, there, bytes_from};
-ghost use Rattle.up_journal.specs.Roles as roles;
-ghost use Rattle.up_journal.specs.Asks.{resolves};
-ghost use Rattle.up_journal.specs.Packets as packets;
-ghost use Rattle.up_journal.specs.Tickets as tickets;
-ghost use Rattle.up_journal.specs.Reply.{within_page};
+ghost use Rattle.up_model.specs.declared.entry.Call.{Call as CallValue};
+ghost use Rattle.up_model.specs.Attempts.{parked};
+ghost use Rattle.up_model.specs.Size as sizes;
+ghost use Rattle.up_model.specs.Value.{value, there, bytes_from};
+ghost use Rattle.up_model.specs.Roles as roles;
+ghost use Rattle.up_model.specs.Asks.{resolves};
+ghost use Rattle.up_model.specs.Packets as packets;
+ghost use Rattle.up_model.specs.Tickets as tickets;
+ghost use Rattle.up_model.specs.Reply.{within_page};
 ghost use Rattle.up_state.specs.Asking.{access_of, event_of};
 
 use crate::asking::{Event, Ticket};

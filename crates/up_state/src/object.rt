@@ -1,11 +1,11 @@
 ghost use Rattle.std.specs.Prelude.{◌≡◌, ◌<◌, ◌^◌, [], length, reverse, IfOk, None, false};
-ghost use Rattle.up_journal.specs.Legal as legal;
+ghost use Rattle.up_model.specs.Legal as legal;
 
 use crate::asking::Asking;
 use crate::page::Page;
 use std::alloc::Global;
 use std::marker::Model;
-use up_journal::{Birth, Entries, Log};
+use up_model::{Birth, Entries, Log};
 use up_num::Memory;
 
 /// A memory object of one page, with its journal. It has to be ended by `end`.
@@ -17,7 +17,7 @@ pub struct Object {
 }
 
 impl Model for Object {
-    ghost use Rattle.up_journal.specs.Legal.{Life};
+    ghost use Rattle.up_model.specs.Legal.{Life};
 
     ghost Value = { Life };
 

@@ -1,13 +1,13 @@
 ghost use Rattle.std.specs.Prelude.{◌≡◌, ℕ, ◌+◌, ◌*◌, ◌<◌, true, false, IsTrue, IfOk, OnOk, OnErr, Some, is_some, slice_get};
-ghost use Rattle.up_journal.specs.declared.entry.Call.TheVariants.{Packet as PacketCall};
-ghost use Rattle.up_journal.specs.declared.entry.Reply.TheVariants.{Packet as PacketReply};
-ghost use Rattle.up_journal.specs.Size.{range_fits};
-ghost use Rattle.up_journal.specs.Value.{value};
-ghost use Rattle.up_journal.specs.Roles.{detached};
-ghost use Rattle.up_journal.specs.Packets as packets;
-ghost use Rattle.up_journal.specs.Tickets as tickets;
-ghost use Rattle.up_journal.specs.Reply as replies;
-ghost use Rattle.up_journal.specs.Legal.{after};
+ghost use Rattle.up_model.specs.declared.entry.Call.TheVariants.{Packet as PacketCall};
+ghost use Rattle.up_model.specs.declared.entry.Reply.TheVariants.{Packet as PacketReply};
+ghost use Rattle.up_model.specs.Size.{range_fits};
+ghost use Rattle.up_model.specs.Value.{value};
+ghost use Rattle.up_model.specs.Roles.{detached};
+ghost use Rattle.up_model.specs.Packets as packets;
+ghost use Rattle.up_model.specs.Tickets as tickets;
+ghost use Rattle.up_model.specs.Reply as replies;
+ghost use Rattle.up_model.specs.Legal.{after};
 ghost use Rattle.up_state.specs.Calls.{supply_call, supply_event, Answers};
 
 use crate::asking::Event;
@@ -15,7 +15,7 @@ use crate::object::Object;
 use crate::parts::{By, note, open};
 use core::mem::replace_with;
 use std::alloc::Global;
-use up_journal::{Brought, Call, Entry, Reply};
+use up_model::{Brought, Call, Entry, Reply};
 use up_num::{AskKind, Bytes, Memory, Outcome, Packet, PageRange, Refusal, Woken};
 
 /// Takes the next packet. It answers `Empty` where all packets that were sent are taken.

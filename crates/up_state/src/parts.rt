@@ -1,11 +1,11 @@
 ghost use Rattle.std.specs.Prelude.{◌≡◌, ◌-◌, ◌∷◌, ◌<◌, true, false, IfOk, OnOk, OnErr, IfErr};
-ghost use Rattle.up_state.specs.Change.{Change, up_to, SamePage, SameAsks, SameSpent, KeepsRoles, IsDue, IsQuiet, Fills, Parks, Happens, TakesPacket, Spends};
+ghost use Rattle.up_state.specs.Change.{Change, up_to, SamePage, SameAsks, SameSpent, KeepsRoles, IsDue, Fills, Parks, Happens, TakesPacket, Spends};
 
 use crate::asking::{Asking, Event, Ticket};
 use crate::object::Object;
 use crate::page::Page;
 use std::marker::Model;
-use up_journal::{Birth, Entry, Log, Reply};
+use up_model::{Birth, Entry, Log, Reply};
 use up_num::{Bytes, Memory};
 
 /// An object in the middle of a call. Each part goes once from the journal before the call's entry to the journal
@@ -184,7 +184,10 @@ pub struct By {
 
 /// Makes a call that changes no part: only the journal grows.
 pub fn note(object: Object, entry: Entry, answer: Reply) -> (Object, Result<Reply, Memory>)
-    requires quiet { IsQuiet object.birth entry object.journal }
+    requires page { SamePage object.birth object.journal (entry ∷ object.journal) 0 }
+    requires asks { SameAsks object.birth object.journal (entry ∷ object.journal) }
+    requires spent { SameSpent object.journal (entry ∷ object.journal) }
+    requires roles { KeepsRoles object.birth entry object.journal }
     requires due { IsDue object.birth entry object.journal }
     requires same { answer ≡ entry.reply }
     ensures ok { OnOk result.1 (result.0 ≡ record { birth = object.birth; journal = entry ∷ object.journal }) }

@@ -1,6 +1,6 @@
 use crate::{Object, packet, supply, touch};
 use std::test::Fail;
-use up_journal::{Birth, Reply};
+use up_model::{Birth, Reply};
 use up_num::{Bytes, Memory, Packet, PageNo, PageRange, Piece};
 
 const BIRTH: Birth = Birth {

@@ -7,8 +7,8 @@ use Rattle.std.proofs.lemmas.Bool.{and_parts, eq-eqb, leb-true, le-leb, lt-ltb, 
 use Rattle.std.proofs.lemmas.List.{length-append}
 use Rattle.std.proofs.lemmas.List.Sums.{sum_by-cons}
 use Rattle.std.proofs.lemmas.List.Concat.{flat_map-cons}
-use Rattle.up_journal.specs.declared.entry.Birth.{Birth}
-use Rattle.up_journal.specs.declared.entry.Entry.{Entry}
+use Rattle.up_model.specs.declared.entry.Birth.{Birth}
+use Rattle.up_model.specs.declared.entry.Entry.{Entry}
 use Rattle.up_words.specs.Steps.{◌>>=◌, at_line}
 use Rattle.up_words.specs.Words.{split, is_word}
 use Rattle.up_words.specs.Names.{is_name}

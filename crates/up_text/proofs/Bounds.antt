@@ -9,8 +9,8 @@ use Rattle.std.proofs.lemmas.List.Folds.{list_all-append}
 use Rattle.up_num.specs.Span.{Span}
 use Rattle.up_num.specs.declared.pages.PageNo.{PageNo}
 use Rattle.up_num.specs.declared.pages.DirtyRange.{DirtyRange}
-use Rattle.up_journal.specs.declared.entry.Brought.{Brought}
-use Rattle.up_journal.specs.declared.entry.Brought.TheVariants.{Nothing, Frames, Scanned}
+use Rattle.up_model.specs.declared.entry.Brought.{Brought}
+use Rattle.up_model.specs.declared.entry.Brought.TheVariants.{Nothing, Frames, Scanned}
 use Rattle.up_words.specs.Steps.{each}
 use Rattle.up_words.specs.Words.{split, word_at, is_byte}
 use Rattle.up_words.specs.Numbers.{number, number_between, number_up_to}

@@ -4,11 +4,11 @@ use Rattle.std.specs.Prelude.{codes}
 use Rattle.std.specs.List.{list_all}
 use Rattle.std.specs.Str.{bytes_eq}
 use Rattle.std.proofs.lemmas.Bool.{and_parts}
-use Rattle.up_journal.specs.declared.entry.Call.{Call}
-use Rattle.up_journal.specs.declared.entry.Call.TheVariants as calls
-use Rattle.up_journal.specs.declared.entry.HintKind.TheVariants.{Always, Cold}
-use Rattle.up_journal.specs.declared.entry.Role.TheVariants.{User, Pager}
-use Rattle.up_journal.specs.declared.entry.Told.TheVariants as tells
+use Rattle.up_model.specs.declared.entry.Call.{Call}
+use Rattle.up_model.specs.declared.entry.Call.TheVariants as calls
+use Rattle.up_model.specs.declared.entry.HintKind.TheVariants.{Always, Cold}
+use Rattle.up_model.specs.declared.entry.Role.TheVariants.{User, Pager}
+use Rattle.up_model.specs.declared.entry.Told.TheVariants as tells
 use Rattle.up_words.specs.Words.{word_at, is_word}
 use Rattle.up_words.specs.Numbers.{number_between}
 use Rattle.up_words.specs.Runs.{too_many, runs_in}
@@ -17,7 +17,8 @@ use Rattle.up_words.proofs.Decimals.{ok_is, some_is}
 use Rattle.up_words.proofs.ByteLists.{back, only}
 use Rattle.up_text.specs.Limits.{all_tickets, all_counts, all_offsets, all_pages, all_lasts, all_sizes, most_bytes}
 use Rattle.up_text.specs.Text.{flag_text, role_text, call_words}
-use Rattle.up_text.specs.Fields.{flag_in, code_in, page_in, range_in, frames_in}
+use Rattle.up_text.specs.Fields.{flag_in, page_in, range_in, frames_in}
+use Rattle.up_words.specs.Refusals.{code_in}
 use Rattle.up_text.specs.Kinds.{call_verb, call_size}
 use Rattle.up_text.specs.Calls.{last_fits, call_fits, first_call, call_kind, plain_call, role_of, call_in, call_of, total_of}
 use Rattle.up_text.specs.Allowed.{lies, page_lies, range_lies, frames_lie, are_bytes, call_allowed, call_bytes}

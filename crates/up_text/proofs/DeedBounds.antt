@@ -9,10 +9,10 @@ use Rattle.up_num.specs.declared.answers.Packet.TheVariants as packets
 use Rattle.up_num.specs.declared.answers.Code.{Code}
 use Rattle.up_num.specs.declared.answers.Refusal.{Refusal}
 use Rattle.up_num.specs.declared.answers.Refusal.TheVariants as refusals
-use Rattle.up_journal.specs.declared.entry.Call.TheVariants as calls
-use Rattle.up_journal.specs.declared.entry.HintKind.TheVariants.{Always, Cold}
-use Rattle.up_journal.specs.declared.entry.Told.TheVariants as tells
-use Rattle.up_journal.specs.declared.entry.Reply.TheVariants as replies
+use Rattle.up_model.specs.declared.entry.Call.TheVariants as calls
+use Rattle.up_model.specs.declared.entry.HintKind.TheVariants.{Always, Cold}
+use Rattle.up_model.specs.declared.entry.Told.TheVariants as tells
+use Rattle.up_model.specs.declared.entry.Reply.TheVariants as replies
 use Rattle.up_words.specs.Words.{word_at}
 use Rattle.up_words.specs.Numbers.{number_between}
 use Rattle.up_words.specs.Runs.{too_many, runs_in, spread}
@@ -20,7 +20,8 @@ use Rattle.up_words.specs.declared.fault.Why.TheVariants as why
 use Rattle.up_words.proofs.Decimals.{ok_is, some_is, both}
 use Rattle.up_words.proofs.ByteLists.{only}
 use Rattle.up_text.specs.Limits.{all_tickets, all_counts, all_offsets, all_pages, all_lasts, all_sizes}
-use Rattle.up_text.specs.Fields.{flag_in, code_in, page_in, range_in, frames_in, run_of}
+use Rattle.up_text.specs.Fields.{flag_in, page_in, range_in, frames_in, run_of}
+use Rattle.up_words.specs.Refusals.{code_in}
 use Rattle.up_text.specs.Calls.{plain_call, role_of, call_in, call_of, total_of}
 use Rattle.up_text.specs.Replies.{pager_refusal, plain_refusal, page_refusal, plain_reply, tickets_in, pages_in, runs_of_pages_in, reply_in, reply_of}
 use Rattle.up_text.specs.Allowed.{lies, page_lies, range_lies, frames_lie, are_bytes, call_allowed, refusal_allowed, reply_allowed, call_bytes, reply_bytes}

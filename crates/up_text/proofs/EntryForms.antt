@@ -8,10 +8,10 @@ use Rattle.std.proofs.lemmas.Bool.{and_parts, eqb-true, eq-eqb, leb-true, le-leb
 use Rattle.std.proofs.lemmas.List.{length-drop}
 use Rattle.std.proofs.lemmas.List.Folds.{list_all-append}
 use Rattle.std.proofs.Math.Seq.{split_at}
-use Rattle.up_journal.specs.declared.entry.Birth.{Birth}
-use Rattle.up_journal.specs.declared.entry.Entry.{Entry}
-use Rattle.up_journal.specs.declared.entry.Call.{Call}
-use Rattle.up_journal.specs.declared.entry.Reply.{Reply}
+use Rattle.up_model.specs.declared.entry.Birth.{Birth}
+use Rattle.up_model.specs.declared.entry.Entry.{Entry}
+use Rattle.up_model.specs.declared.entry.Call.{Call}
+use Rattle.up_model.specs.declared.entry.Reply.{Reply}
 use Rattle.up_words.specs.Steps.{◌>>=◌}
 use Rattle.up_words.specs.Words.{word_at, word_is, is_word, is_word_byte}
 use Rattle.up_words.specs.Numbers.{is_digit, number_between}

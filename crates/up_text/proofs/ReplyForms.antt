@@ -10,8 +10,8 @@ use Rattle.up_num.specs.declared.answers.Code.{Code}
 use Rattle.up_num.specs.declared.answers.Code.TheVariants.{Io, IoDataIntegrity, BadState, NoSpace, BufferTooSmall}
 use Rattle.up_num.specs.declared.answers.Refusal.{Refusal}
 use Rattle.up_num.specs.declared.answers.Refusal.TheVariants as refusals
-use Rattle.up_journal.specs.declared.entry.Reply.{Reply}
-use Rattle.up_journal.specs.declared.entry.Reply.TheVariants as replies
+use Rattle.up_model.specs.declared.entry.Reply.{Reply}
+use Rattle.up_model.specs.declared.entry.Reply.TheVariants as replies
 use Rattle.std.specs.Str.{bytes_eq}
 use Rattle.up_words.specs.Words.{word_at, verb_is, is_word}
 use Rattle.up_words.specs.Numbers.{number_between}
@@ -21,7 +21,8 @@ use Rattle.up_words.proofs.Decimals.{ok_is, some_is}
 use Rattle.up_words.proofs.ByteLists.{back, only}
 use Rattle.up_text.specs.Limits.{all_tickets, all_counts, all_pages, most_bytes}
 use Rattle.up_text.specs.Text.{page_text, code_text, refusal_words, reply_words}
-use Rattle.up_text.specs.Fields.{flag_in, code_in, page_in, range_in}
+use Rattle.up_text.specs.Fields.{flag_in, page_in, range_in}
+use Rattle.up_words.specs.Refusals.{code_in}
 use Rattle.up_text.specs.Kinds.{reply_verb, reply_size}
 use Rattle.up_text.specs.Calls.{total_of}
 use Rattle.up_text.specs.Replies.{pager_refusal, plain_refusal, page_refusal, fixed_fit, reply_fits, first_reply, reply_kind, list_fits, plain_reply, tickets_in, pages_in, runs_of_pages_in, reply_in, reply_of}

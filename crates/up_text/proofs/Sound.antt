@@ -7,7 +7,7 @@ use Rattle.std.proofs.lemmas.Bool.{and_parts, eqb-true, leb-true, ltb-true, le-l
 use Rattle.std.proofs.lemmas.List.{length-append}
 use Rattle.std.proofs.lemmas.List.Folds.{list_all-append}
 use Rattle.std.proofs.lemmas.List.Sums.{sum_by_push}
-use Rattle.up_journal.specs.declared.entry.Birth.{Birth}
+use Rattle.up_model.specs.declared.entry.Birth.{Birth}
 use Rattle.up_words.specs.Steps.{◌>>=◌, check, at_line, lines_from, GivesText}
 use Rattle.up_words.specs.Words.{split, words_in, word_at, word_is, verb_is}
 use Rattle.up_words.specs.Numbers.{number_between}

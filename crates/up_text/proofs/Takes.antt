@@ -7,7 +7,7 @@ use Rattle.std.specs.Str.{bytes_eq}
 use Rattle.std.proofs.lemmas.Bool.{and_parts, eqb-true, leb-true}
 use Rattle.std.proofs.lemmas.List.Concat.{flat_map-append, flat_map-cons}
 use Rattle.std.proofs.lemmas.List.Splits.{join_with_byte-slice_split}
-use Rattle.up_journal.specs.declared.entry.Entry.{Entry}
+use Rattle.up_model.specs.declared.entry.Entry.{Entry}
 use Rattle.up_words.specs.Steps.{◌>>=◌, check, at_line, lines_from}
 use Rattle.up_words.specs.Words.{split, words_in, word_at, word_is, verb_is}
 use Rattle.up_words.specs.Numbers.{number_between}

@@ -11,8 +11,8 @@ use Rattle.up_num.specs.Span.{Span}
 use Rattle.up_num.specs.declared.pages.PageNo.{PageNo}
 use Rattle.up_num.specs.declared.answers.Code.{Code}
 use Rattle.up_num.specs.declared.answers.Code.TheVariants.{Io, IoDataIntegrity, BadState, NoSpace, BufferTooSmall}
-use Rattle.up_journal.specs.declared.entry.Brought.{Brought}
-use Rattle.up_journal.specs.declared.entry.Brought.TheVariants.{Nothing, Frames, Scanned}
+use Rattle.up_model.specs.declared.entry.Brought.{Brought}
+use Rattle.up_model.specs.declared.entry.Brought.TheVariants.{Nothing, Frames, Scanned}
 use Rattle.up_words.specs.Steps.{◌>>=◌, or_why}
 use Rattle.up_words.specs.Words.{is_word, is_word_byte}
 use Rattle.up_words.specs.Numbers.{is_digit, number, number_between}
@@ -21,7 +21,8 @@ use Rattle.up_words.specs.declared.fault.Why.TheVariants as why
 use Rattle.up_words.proofs.Decimals.{own, back, only, then_ok, ok_is, some_is, both}
 use Rattle.up_text.specs.Limits.{all_counts, all_pages, all_sizes}
 use Rattle.up_text.specs.Text.{flag_text, frames_text, code_text, page_text}
-use Rattle.up_text.specs.Fields.{flag_in, code_in, page_in, range_in, is_frames, frame_count_in, frames_in}
+use Rattle.up_text.specs.Fields.{flag_in, page_in, range_in, is_frames, frame_count_in, frames_in}
+use Rattle.up_words.specs.Refusals.{code_in}
 use Rattle.up_text.specs.Allowed.{lies, range_lies, frames_lie}
 
 -- nothing was found

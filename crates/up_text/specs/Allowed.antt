@@ -9,16 +9,16 @@ use Rattle.up_num.specs.declared.answers.Packet.{Packet as PacketValue}
 use Rattle.up_num.specs.declared.answers.Packet.TheVariants as packets
 use Rattle.up_num.specs.declared.answers.Refusal.{Refusal}
 use Rattle.up_num.specs.declared.answers.Refusal.TheVariants as refusals
-use Rattle.up_journal.specs.declared.entry.Birth.{Birth}
-use Rattle.up_journal.specs.declared.entry.Brought.{Brought}
-use Rattle.up_journal.specs.declared.entry.Brought.TheVariants.{Frames}
-use Rattle.up_journal.specs.declared.entry.Told.{Told}
-use Rattle.up_journal.specs.declared.entry.Told.TheVariants as tells
-use Rattle.up_journal.specs.declared.entry.Call.{Call}
-use Rattle.up_journal.specs.declared.entry.Call.TheVariants as calls
-use Rattle.up_journal.specs.declared.entry.Reply.{Reply}
-use Rattle.up_journal.specs.declared.entry.Reply.TheVariants as replies
-use Rattle.up_journal.specs.declared.entry.Entry.{Entry}
+use Rattle.up_model.specs.declared.entry.Birth.{Birth}
+use Rattle.up_model.specs.declared.entry.Brought.{Brought}
+use Rattle.up_model.specs.declared.entry.Brought.TheVariants.{Frames}
+use Rattle.up_model.specs.declared.entry.Told.{Told}
+use Rattle.up_model.specs.declared.entry.Told.TheVariants as tells
+use Rattle.up_model.specs.declared.entry.Call.{Call}
+use Rattle.up_model.specs.declared.entry.Call.TheVariants as calls
+use Rattle.up_model.specs.declared.entry.Reply.{Reply}
+use Rattle.up_model.specs.declared.entry.Reply.TheVariants as replies
+use Rattle.up_model.specs.declared.entry.Entry.{Entry}
 use Rattle.up_text.specs.Limits.{all_tickets, all_counts, all_offsets, all_pages, all_lasts, all_sizes, all_actors, longest_text, most_bytes, most_journals}
 use Rattle.up_text.specs.Text.{text}
 use Rattle.up_text.specs.Reading.{has_name}

@@ -1,11 +1,11 @@
 -- What a call's words spell.
 use Rattle.std.specs.Prelude.{ℕ, ◌-◌, ◌&&◌, Bool, true, cond, List, [], ◌∷◌, Option, Some, None, Result, Ok, codes}
-use Rattle.up_journal.specs.declared.entry.Call.{Call}
-use Rattle.up_journal.specs.declared.entry.Call.TheVariants as calls
-use Rattle.up_journal.specs.declared.entry.Role.{Role}
-use Rattle.up_journal.specs.declared.entry.Role.TheVariants.{User, Pager}
-use Rattle.up_journal.specs.declared.entry.HintKind.TheVariants.{Always, Cold}
-use Rattle.up_journal.specs.declared.entry.Told.TheVariants as tells
+use Rattle.up_model.specs.declared.entry.Call.{Call}
+use Rattle.up_model.specs.declared.entry.Call.TheVariants as calls
+use Rattle.up_model.specs.declared.entry.Role.{Role}
+use Rattle.up_model.specs.declared.entry.Role.TheVariants.{User, Pager}
+use Rattle.up_model.specs.declared.entry.HintKind.TheVariants.{Always, Cold}
+use Rattle.up_model.specs.declared.entry.Told.TheVariants as tells
 use Rattle.up_words.specs.Steps.{◌>>=◌, or_why}
 use Rattle.up_words.specs.Words.{word_at, word_is}
 use Rattle.up_words.specs.Numbers.{number_between}
@@ -13,7 +13,8 @@ use Rattle.up_words.specs.Runs.{runs_in, spread}
 use Rattle.up_words.specs.declared.fault.Why.{Why}
 use Rattle.up_words.specs.declared.fault.Why.TheVariants.{Word}
 use Rattle.up_words.specs.declared.runs.Runs.{Runs}
-use Rattle.up_text.specs.Fields.{is_found, flag_in, code_in, page_in, range_in, is_frames, frames_in}
+use Rattle.up_text.specs.Fields.{is_found, flag_in, page_in, range_in, is_frames, frames_in}
+use Rattle.up_words.specs.Refusals.{code_in}
 use Rattle.up_text.specs.Kinds.{call_verb, call_size, call_kinds}
 use Rattle.up_text.specs.Limits.{all_tickets, all_counts, all_offsets, all_pages, all_lasts, all_sizes}
 use Rattle.up_text.specs.declared.calls.SpelledCall.{SpelledCall}

@@ -5,10 +5,8 @@ use Rattle.std.specs.Str.{bytes_eq}
 use Rattle.up_num.specs.Span.{Span}
 use Rattle.up_num.specs.declared.pages.PageNo.{PageNo}
 use Rattle.up_num.specs.declared.pages.DirtyRange.{DirtyRange}
-use Rattle.up_num.specs.declared.answers.Code.{Code}
-use Rattle.up_num.specs.declared.answers.Code.TheVariants.{Io, IoDataIntegrity, BadState, NoSpace, BufferTooSmall}
-use Rattle.up_journal.specs.declared.entry.Brought.{Brought}
-use Rattle.up_journal.specs.declared.entry.Brought.TheVariants.{Nothing, Frames, Scanned}
+use Rattle.up_model.specs.declared.entry.Brought.{Brought}
+use Rattle.up_model.specs.declared.entry.Brought.TheVariants.{Nothing, Frames, Scanned}
 use Rattle.up_words.specs.Steps.{◌>>=◌, check, or_why, each}
 use Rattle.up_words.specs.Words.{split, word_at}
 use Rattle.up_words.specs.Numbers.{number_between}
@@ -24,15 +22,6 @@ is_found (Some x) = true
 -- which of two fixed words this is
 abbrev pub flag_in : List ℕ → List ℕ → List ℕ → Option Bool
 flag_in set unset word = cond (bytes_eq word set) (Some true) (cond (bytes_eq word unset) (Some false) None)
-
--- the code that a word spells
-abbrev pub code_in : List ℕ → Option Code
-code_in word =
-    cond (bytes_eq word (codes "io")) (Some Io)
-    (cond (bytes_eq word (codes "io-data-integrity")) (Some IoDataIntegrity)
-    (cond (bytes_eq word (codes "bad-state")) (Some BadState)
-    (cond (bytes_eq word (codes "no-space")) (Some NoSpace)
-    (cond (bytes_eq word (codes "buffer-too-small")) (Some BufferTooSmall) None))))
 
 -- a page's number, at most the greatest one
 abbrev pub page_in : ℕ → List ℕ → Result PageNo Why

@@ -2,8 +2,8 @@
 use Rattle.std.specs.Prelude.{ℕ, ◌+◌, ◌==◌, ◌&&◌, ◌++◌, Bool, cond, not, List, [], ◌∷◌, Option, Some, None, Result, Ok, Err, codes, drop, length, nat_le, nat_lt}
 use Rattle.std.specs.List.{list_any}
 use Rattle.std.specs.Str.{bytes_eq}
-use Rattle.up_journal.specs.declared.entry.Birth.{Birth}
-use Rattle.up_journal.specs.declared.entry.Entry.{Entry}
+use Rattle.up_model.specs.declared.entry.Birth.{Birth}
+use Rattle.up_model.specs.declared.entry.Entry.{Entry}
 use Rattle.up_words.specs.Steps.{◌>>=◌, check, or_why, at_line, lines_from}
 use Rattle.up_words.specs.Words.{split, words_in, word_at, word_is, verb_is}
 use Rattle.up_words.specs.Numbers.{number_between}

@@ -7,8 +7,8 @@ use Rattle.up_num.specs.declared.answers.Refusal.TheVariants as refusals
 use Rattle.up_num.specs.declared.answers.Code.{Code}
 use Rattle.up_num.specs.declared.pages.PageNo.{PageNo}
 use Rattle.up_num.specs.declared.pages.DirtyRange.{DirtyRange}
-use Rattle.up_journal.specs.declared.entry.Reply.{Reply}
-use Rattle.up_journal.specs.declared.entry.Reply.TheVariants as replies
+use Rattle.up_model.specs.declared.entry.Reply.{Reply}
+use Rattle.up_model.specs.declared.entry.Reply.TheVariants as replies
 use Rattle.up_words.specs.Steps.{◌>>=◌, or_why}
 use Rattle.up_words.specs.Words.{word_at, word_is, verb_is}
 use Rattle.up_words.specs.Numbers.{number_between}
@@ -16,7 +16,8 @@ use Rattle.up_words.specs.Runs.{runs_in, spread}
 use Rattle.up_words.specs.declared.fault.Why.{Why}
 use Rattle.up_words.specs.declared.fault.Why.TheVariants.{Word}
 use Rattle.up_words.specs.declared.runs.Runs.{Runs}
-use Rattle.up_text.specs.Fields.{is_found, flag_in, code_in, page_in, range_in, list_in, run_of, are_runs}
+use Rattle.up_text.specs.Fields.{is_found, flag_in, page_in, range_in, list_in, run_of, are_runs}
+use Rattle.up_words.specs.Refusals.{code_in}
 use Rattle.up_text.specs.Kinds.{reply_verb, reply_size, reply_kinds}
 use Rattle.up_text.specs.Limits.{all_tickets, all_counts, all_pages}
 use Rattle.up_text.specs.declared.kinds.ReplyKind.{ReplyKind}

@@ -11,20 +11,20 @@ use Rattle.up_num.specs.declared.answers.Packet.{Packet as PacketValue}
 use Rattle.up_num.specs.declared.answers.Packet.TheVariants as packet
 use Rattle.up_num.specs.declared.answers.Refusal.{Refusal}
 use Rattle.up_num.specs.declared.answers.Refusal.TheVariants as refusal
-use Rattle.up_journal.specs.declared.entry.Birth.{Birth}
-use Rattle.up_journal.specs.declared.entry.Brought.{Brought}
-use Rattle.up_journal.specs.declared.entry.Brought.TheVariants.{Nothing, Frames, Scanned}
-use Rattle.up_journal.specs.declared.entry.Role.{Role}
-use Rattle.up_journal.specs.declared.entry.Role.TheVariants.{User, Pager}
-use Rattle.up_journal.specs.declared.entry.HintKind.{HintKind}
-use Rattle.up_journal.specs.declared.entry.HintKind.TheVariants.{Always, Cold}
-use Rattle.up_journal.specs.declared.entry.Told.{Told}
-use Rattle.up_journal.specs.declared.entry.Told.TheVariants.{Fetched, Copied, Stored, Flushed, Busy}
-use Rattle.up_journal.specs.declared.entry.Call.{Call}
-use Rattle.up_journal.specs.declared.entry.Call.TheVariants as call
-use Rattle.up_journal.specs.declared.entry.Reply.{Reply}
-use Rattle.up_journal.specs.declared.entry.Reply.TheVariants as reply
-use Rattle.up_journal.specs.declared.entry.Entry.{Entry}
+use Rattle.up_model.specs.declared.entry.Birth.{Birth}
+use Rattle.up_model.specs.declared.entry.Brought.{Brought}
+use Rattle.up_model.specs.declared.entry.Brought.TheVariants.{Nothing, Frames, Scanned}
+use Rattle.up_model.specs.declared.entry.Role.{Role}
+use Rattle.up_model.specs.declared.entry.Role.TheVariants.{User, Pager}
+use Rattle.up_model.specs.declared.entry.HintKind.{HintKind}
+use Rattle.up_model.specs.declared.entry.HintKind.TheVariants.{Always, Cold}
+use Rattle.up_model.specs.declared.entry.Told.{Told}
+use Rattle.up_model.specs.declared.entry.Told.TheVariants.{Fetched, Copied, Stored, Flushed, Busy}
+use Rattle.up_model.specs.declared.entry.Call.{Call}
+use Rattle.up_model.specs.declared.entry.Call.TheVariants as call
+use Rattle.up_model.specs.declared.entry.Reply.{Reply}
+use Rattle.up_model.specs.declared.entry.Reply.TheVariants as reply
+use Rattle.up_model.specs.declared.entry.Entry.{Entry}
 use Rattle.up_text.specs.declared.journals.Named.{Named}
 
 -- words, a space before each

@@ -6,7 +6,7 @@ use crate::fields::{SIZES, read_count, read_flag};
 use crate::journals::Named;
 use crate::stage::{Part, Stage};
 use std::alloc::Global;
-use up_journal::Birth;
+use up_model::Birth;
 use up_num::Items;
 use up_words::{Stop, Why, Words, read_between, spells_name};
 

@@ -5,15 +5,15 @@ ghost use Rattle.up_text.specs.Fields.{is_found};
 ghost use Rattle.up_text.specs.declared.kinds.CallKind.TheVariants as kinds;
 
 use crate::fields::{
-    COUNTS, LASTS, OFFSETS, PAGES, SIZES, TICKETS, code, flag, read_code, read_count, read_flag,
+    COUNTS, LASTS, OFFSETS, PAGES, SIZES, TICKETS, flag, read_code, read_count, read_flag,
     read_frames, read_page, read_range, shows_frames,
 };
 use crate::kinds::{CALLS, CallKind};
 use crate::tail::Tail;
 use std::alloc::Global;
-use up_journal::{Call, HintKind, Role, Told};
+use up_model::{Call, HintKind, Role, Told};
 use up_num::{Items, Memory, PageRange, Piece};
-use up_words::{Runs, Stop, read_between, read_runs, spread_runs};
+use up_words::{Runs, Stop, read_between, read_runs, spelled_code, spread_runs};
 
 /// A call whose bytes, where it has any, are still runs. The call itself has no bytes then.
 #[derive(Debug, Drop)]
@@ -38,7 +38,7 @@ fn fits_last(kind: CallKind, word: &[u8]) -> bool
     match kind {
         CallKind::Read | CallKind::Write | CallKind::Retry | CallKind::Supply => shows_frames(word),
         CallKind::Dirty | CallKind::Pin | CallKind::Borrow | CallKind::Vacate => shows_frames(word),
-        CallKind::Fail => code(word).is_some(),
+        CallKind::Fail => spelled_code(word).is_some(),
         CallKind::Begin => flag(b"zero", b"any", word).is_some(),
         CallKind::Stats => flag(b"reset", b"keep", word).is_some(),
         CallKind::Leave => flag(b"user", b"pager", word).is_some(),

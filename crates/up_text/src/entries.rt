@@ -16,7 +16,7 @@ use crate::replies::{SpelledReply, fill_reply, find_reply, fits_list, read_reply
 use crate::stage::{Part, Stage};
 use crate::tail::Tail;
 use std::alloc::Global;
-use up_journal::Entry;
+use up_model::Entry;
 use up_num::Memory;
 use up_words::{Stop, Why, Words, read_between};
 

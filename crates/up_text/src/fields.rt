@@ -2,11 +2,12 @@ ghost use Rattle.std.specs.Prelude.{◌≡◌, ◌==◌, get_or};
 ghost use Rattle.up_words.specs.Steps.{Gives, or_why};
 ghost use Rattle.up_words.specs.Numbers.{number_between};
 ghost use Rattle.up_words.specs.declared.fault.Why.TheVariants.{Word};
-ghost use Rattle.up_text.specs.Fields.{flag_in, code_in, page_in, range_in, is_frames, frame_count_in, frames_in};
+ghost use Rattle.up_words.specs.Refusals.{code_in};
+ghost use Rattle.up_text.specs.Fields.{flag_in, page_in, range_in, is_frames, frame_count_in, frames_in};
 
-use up_journal::Brought;
+use up_model::Brought;
 use up_num::{Code, PageNo, PageRange};
-use up_words::{Stop, Why, read_between};
+use up_words::{Stop, Why, read_between, spelled_code};
 
 /// Positions, epochs and tickets are at most this.
 pub const TICKETS: u64 = u64::MAX;
@@ -44,30 +45,11 @@ pub fn read_flag(set: &[u8], unset: &[u8], word: &[u8]) -> Result<bool, Stop>
     }
 }
 
-/// The code that a word spells.
-pub fn code(word: &[u8]) -> Option<Code>
-    ensures { result ≡ code_in word.now }
-{
-    if word == b"io".as_slice() {
-        Some(Code::Io)
-    } else if word == b"io-data-integrity".as_slice() {
-        Some(Code::IoDataIntegrity)
-    } else if word == b"bad-state".as_slice() {
-        Some(Code::BadState)
-    } else if word == b"no-space".as_slice() {
-        Some(Code::NoSpace)
-    } else if word == b"buffer-too-small".as_slice() {
-        Some(Code::BufferTooSmall)
-    } else {
-        None
-    }
-}
-
 /// The code that a word spells. Any other word is the fault `Word`.
 pub fn read_code(word: &[u8]) -> Result<Code, Stop>
     ensures { Gives (λ code. code) result (or_why Word (code_in word.now)) }
 {
-    match code(word) {
+    match spelled_code(word) {
         None => Err(Stop::Found(Why::Word)),
         Some(code) => Ok(code),
     }

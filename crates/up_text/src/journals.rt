@@ -1,4 +1,4 @@
-use up_journal::{Birth, Entries};
+use up_model::{Birth, Entries};
 use up_num::{Bytes, Items};
 
 /// The journals of some objects, in order.

@@ -19,6 +19,7 @@ mod tail;
 mod writing;
 
 pub use journals::{Journals, Named};
+pub use put_replies::put_reply;
 pub use reading::read_journals;
 pub use writing::write_journals;
 

@@ -3,7 +3,7 @@ ghost use Rattle.up_words.specs.Runs.{bytes_text, hex, run_text, text_from};
 ghost use Rattle.up_text.specs.Text.{code_text, flag_text, frames_text, list_text, more_text, page_text, range_words, run_of_pages, spaced};
 
 use itoa::Buffer;
-use up_journal::Brought;
+use up_model::Brought;
 use up_num::{Code, DirtyRange, Memory, PageNo, PageRange};
 
 pub fn put_number(out: &mut Vec<u8>, number: u64) -> Result<(), Memory>

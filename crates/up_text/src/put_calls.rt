@@ -1,12 +1,12 @@
 ghost use Rattle.std.specs.Prelude.{◌≡◌, ◌++◌, ◌∷◌, [], OnOk, decimal, true};
-ghost use Rattle.up_journal.specs.declared.entry.Call.TheVariants as calls;
+ghost use Rattle.up_model.specs.declared.entry.Call.TheVariants as calls;
 ghost use Rattle.up_text.specs.Text.{call_words, frames_text, hint_text, is_short, ok_text, page_text, range_words, spaced, told_words};
 
 use crate::put::{
     put_bytes, put_code, put_flag, put_frames, put_next, put_page, put_range, put_with_flag,
     put_with_number, put_with_range, put_word,
 };
-use up_journal::{Brought, Call, HintKind, Role, Told};
+use up_model::{Brought, Call, HintKind, Role, Told};
 use up_num::{Bytes, Code, Memory, PageNo, PageRange, Piece};
 
 /// A space and the words of a call, with a space between each two.

@@ -1,12 +1,12 @@
 ghost use Rattle.std.specs.Prelude.{◌≡◌, ◌++◌, ◌∷◌, [], OnOk};
-ghost use Rattle.up_journal.specs.declared.entry.Reply.TheVariants as replies;
+ghost use Rattle.up_model.specs.declared.entry.Reply.TheVariants as replies;
 ghost use Rattle.up_text.specs.Text.{page_text, refusal_words, reply_words, spaced};
 
 use crate::put::{
     put_bytes, put_code, put_numbers, put_page, put_pages, put_ranges, put_with_flag,
     put_with_number, put_with_range, put_word,
 };
-use up_journal::Reply;
+use up_model::Reply;
 use up_num::{Bytes, Memory, Packet, PageNo, PageSeq, RangeSeq, Refusal, Woken};
 
 /// A space and the words of a reply, with a space between each two.

@@ -4,16 +4,14 @@ ghost use Rattle.up_words.specs.declared.fault.Why.TheVariants.{Word};
 ghost use Rattle.up_text.specs.Replies.{first_reply, fixed_fit, list_fits, page_refusal, plain_refusal, plain_reply, reply_fits, reply_in, reply_kind, reply_of};
 ghost use Rattle.up_text.specs.declared.kinds.ReplyKind.TheVariants as kinds;
 
-use crate::fields::{
-    COUNTS, PAGES, TICKETS, code, flag, read_count, read_flag, read_page, read_range,
-};
+use crate::fields::{COUNTS, PAGES, TICKETS, flag, read_count, read_flag, read_page, read_range};
 use crate::kinds::{REPLIES, ReplyKind};
 use crate::lists::{read_pages, read_runs_of_pages, read_tickets, shows_runs};
 use crate::tail::Tail;
 use std::alloc::Global;
-use up_journal::Reply;
+use up_model::Reply;
 use up_num::{Items, Memory, Packet, PageNo, Refusal};
-use up_words::{Runs, Stop, Why, read_between, read_runs, spread_runs};
+use up_words::{Runs, Stop, Why, read_between, read_runs, spelled_code, spread_runs};
 
 /// A reply whose bytes, where it has any, are still runs. The reply itself has no bytes then.
 #[derive(Debug, Drop)]
@@ -36,7 +34,7 @@ fn refusal(word: &[u8]) -> Option<Refusal>
     } else if word == b"no-frames".as_slice() {
         Some(Refusal::NoFrames)
     } else {
-        match code(word) {
+        match spelled_code(word) {
             None => None,
             Some(code) => Some(Refusal::Pager(code)),
         }

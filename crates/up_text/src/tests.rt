@@ -1,10 +1,7 @@
-mod runs;
-
 use crate::{Journals, read_journals, write_journals};
-use runs::{FIRST, SECOND};
 use std::alloc::{AllocError, Global};
 use std::test::Fail;
-use up_journal::{Birth, Brought, Call, Entry, Reply};
+use up_model::{Birth, Brought, Call, Entry, Reply};
 use up_num::{Packet, PageNo, PageRange, Piece};
 use up_words::{ReadFault, Why};
 
@@ -241,23 +238,6 @@ fn written_again(alloc: Global, text: &[u8]) -> Result<Vec<u8>, ReadFault> {
     let mut out = Vec::new(alloc);
     write_journals(&journals, &mut out)?;
     Ok(out)
-}
-
-#[test]
-fn worked_journals_are_written_as_they_were_read(rt: HostRuntime) -> Result<(), Fail> {
-    for text in FIRST {
-        let again = written_again(rt.alloc(), text)
-            .ok()
-            .ok_or("a journal text")?;
-        assert!(rt; again.as_slice() == text);
-    }
-    for text in SECOND {
-        let again = written_again(rt.alloc(), text)
-            .ok()
-            .ok_or("a journal text")?;
-        assert!(rt; again.as_slice() == text);
-    }
-    Ok(())
 }
 
 #[test]

@@ -6,7 +6,7 @@ use crate::journals::{Journals, Named};
 use crate::put::{put_flag, put_next, put_number, put_word};
 use crate::put_calls::put_call;
 use crate::put_replies::put_reply;
-use up_journal::{Birth, Call, Entry, Reply};
+use up_model::{Birth, Call, Entry, Reply};
 use up_num::Memory;
 
 /// Appends the text of the journals. After want of memory nothing is appended.

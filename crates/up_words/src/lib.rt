@@ -1,7 +1,8 @@
-//! What both texts of the pager are made of: lines, words, numbers, names and byte lists, and the faults that a reader
-//! names.
+//! What both texts of the pager are made of: lines, words, numbers, names, codes and byte lists, and the faults that a
+//! reader names.
 #![tactic(auto)]
 
+mod codes;
 mod fault;
 mod laws;
 mod names;
@@ -9,6 +10,7 @@ mod numbers;
 mod runs;
 mod words;
 
+pub use codes::spelled_code;
 pub use fault::{Fault, ReadFault, Stop, Why};
 pub use laws::{byte_lists_are_runs, numbers_are_decimal, words_join_to_their_line};
 pub use names::spells_name;

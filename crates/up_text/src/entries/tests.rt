@@ -3,7 +3,7 @@ use crate::journals::Named;
 use crate::stage::{Part, Stage};
 use std::alloc::Global;
 use std::test::Fail;
-use up_journal::Birth;
+use up_model::Birth;
 use up_num::Items;
 use up_words::{Stop, Why, read_words};
 

@@ -1,11 +1,22 @@
 use Rattle.std.proofs.Common.{◌≡◌, ◌⊎◌, sym, subst, ℕ, [], ◌∷◌}
 use Rattle.std.specs.Prelude.{Contains}
-use Rattle.pagerd.proofs.Endings.{status_listed, ends_well, no_unread}
+use Rattle.pagerd.proofs.Endings.{status_listed, ends_written, ends_illegal, no_unread, no_illegal, no_journals_unread, not_illegal, not_legal}
 use Rattle.pagerd.proofs.top.alone.Goals as goal
 
 pub returns-clause-listed : goal.returns-clause-listed
-returns-clause-listed g c = subst (λ (n : ℕ). Contains (0 ∷ 2 ∷ 3 ∷ 4 ∷ 5 ∷ 7 ∷ []) n) (sym c.status.ensures) (status_listed c.run.result)
+returns-clause-listed g c = subst (λ (n : ℕ). Contains (0 ∷ 1 ∷ 2 ∷ 3 ∷ 4 ∷ 5 ∷ 7 ∷ []) n) (sym c.status.ensures) (status_listed c.run.result)
 
 pub returns-clause-complete : goal.returns-clause-complete
 returns-clause-complete g c = λ step script no_source no_sink. subst (λ (n : ℕ). (n ≡ 0) ⊎ (n ≡ 7)) (sym c.status.ensures)
-    (ends_well _ c.run.result c.run.ensures.step (λ unread has. no_unread _ _ _ _ _ has (c.run.ensures.unread unread)) c.run.ensures.source c.run.ensures.sink step script no_source no_sink)
+    (ends_written c.run.result (λ is. no_illegal _ _ _ _ _ step (c.run.ensures.illegal is)) (c.run.ensures.step step)
+    (λ is. no_unread _ _ _ _ _ step script (c.run.ensures.unread is)) (λ is. no_source (c.run.ensures.source is).0) (λ is. no_sink (c.run.ensures.sink is).0))
+
+pub returns-clause-right : goal.returns-clause-right
+returns-clause-right g c = λ journals check has legal no_source no_sink. subst (λ (n : ℕ). (n ≡ 0) ⊎ (n ≡ 7)) (sym c.status.ensures)
+    (ends_written c.run.result (λ is. not_illegal _ _ _ _ _ journals has legal (c.run.ensures.illegal is)) (c.run.ensures.check check)
+    (λ is. no_journals_unread _ _ _ _ _ journals check has (c.run.ensures.unread is)) (λ is. no_source (c.run.ensures.source is).0) (λ is. no_sink (c.run.ensures.sink is).0))
+
+pub returns-clause-wrong : goal.returns-clause-wrong
+returns-clause-wrong g c = λ journals check has illegal no_source no_sink. subst (λ (n : ℕ). (n ≡ 1) ⊎ (n ≡ 7)) (sym c.status.ensures)
+    (ends_illegal c.run.result (λ is. not_legal _ _ _ _ _ journals check has illegal (c.run.ensures.done is)) (c.run.ensures.check check)
+    (λ is. no_journals_unread _ _ _ _ _ journals check has (c.run.ensures.unread is)) (λ is. no_source (c.run.ensures.source is).0) (λ is. no_sink (c.run.ensures.sink is).0))

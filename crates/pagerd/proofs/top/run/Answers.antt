@@ -1,9 +1,13 @@
 use Rattle.std.proofs.Common.{rules}
-use Rattle.pagerd.specs.Top.{text_fault, unbuilt_fault}
+use Rattle.std.specs.Prelude.{codes}
+use Rattle.pagerd.specs.Top.{words_fault}
 use Rattle.pagerd.proofs.top.run.Goals as goal
 
-pub returns-in-Bad-clause-sink : goal.returns-in-Bad-clause-sink
-returns-in-Bad-clause-sink g c = λ _. (search rules, record { text = c.in-Bad.text.items; front = search rules; output = text_fault; is = search rules })
+pub returns-then-is_word-clause-sink : goal.returns-then-is_word-clause-sink
+returns-then-is_word-clause-sink g c = c.run_step.ensures.sink _ (c.is_word.ensures.0 c.if-is_word.true)
 
-pub returns-clause-sink : goal.returns-clause-sink
-returns-clause-sink g c = λ _. (search rules, record { text = c.in-Unbuilt.text.items; front = search rules; output = unbuilt_fault; is = search rules })
+pub returns-then-is_word-2-clause-sink : goal.returns-then-is_word-2-clause-sink
+returns-then-is_word-2-clause-sink g c = c.run_check.ensures.sink _ (c.is_word-2.ensures.0 c.if-is_word-2.true)
+
+pub returns-in-Err-clause-sink : goal.returns-in-Err-clause-sink
+returns-in-Err-clause-sink g c = λ _. (search rules, record { text = codes "words\n"; front = search rules; output = words_fault; is = search rules })

@@ -1,7 +1,7 @@
 use Rattle.std.proofs.Common.{◌≡◌, ◌<◌, ℕ, length, true, Some, get_or, slice_get, slice_set, ap, sym, ◌∙◌, subst}
-use Rattle.up_journal.specs.Parked.{waits_after}
-use Rattle.up_journal.specs.Reply.{proper}
-use Rattle.up_journal.specs.declared.entry.Reply.{Reply}
+use Rattle.up_model.specs.Parked.{waits_after}
+use Rattle.up_model.specs.Reply.{proper}
+use Rattle.up_model.specs.declared.entry.Reply.{Reply}
 use Rattle.pagerd.specs.Stage.{Staged, Acted}
 use Rattle.pagerd.specs.Steps.{aim_of, call_of, object_at, parked_at}
 use Rattle.pagerd.proofs.Staging.{get_is, sound_limits, sound_within, built_proper, built_no_retry, keeps_by, acted_by}

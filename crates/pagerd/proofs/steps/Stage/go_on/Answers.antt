@@ -1,6 +1,6 @@
 use Rattle.std.proofs.Common.{◌≡◌, ◌<◌, length, Option, Some, None, true, slice_get, refl, ap, sym, ◌∙◌, subst, ℕ, arith}
 use Rattle.std.proofs.lemmas.Option.{slice_get_read}
-use Rattle.up_journal.proofs.Bools.{and_left, and_right}
+use Rattle.up_model.proofs.Bools.{and_left, and_right}
 use Rattle.up_script.specs.Sound.{is_sound_action}
 use Rattle.pagerd.specs.declared.steps.Parked.{Parked}
 use Rattle.pagerd.proofs.Blocks.{went_waiting, went_through, goes_past, able_line, no_parked}

@@ -1,11 +1,11 @@
 use Rattle.std.proofs.Common.{◌≡◌, ◌<◌, length, Some, slice_get, slice_set, refl, ap, sym, ◌∙◌, subst, arith}
-use Rattle.up_journal.specs.Legal.{Life}
-use Rattle.up_journal.specs.Parked.{waits_after, waits_under}
-use Rattle.up_journal.specs.declared.entry.Brought.TheVariants.{Nothing}
-use Rattle.up_journal.specs.declared.entry.Call.{Call}
-use Rattle.up_journal.specs.declared.entry.Call.TheVariants.{Retry}
-use Rattle.up_journal.specs.declared.entry.Reply.{Reply}
-use Rattle.up_journal.proofs.Holding.{waits_may_retry}
+use Rattle.up_model.specs.Legal.{Life}
+use Rattle.up_model.specs.Parked.{waits_after, waits_under}
+use Rattle.up_model.specs.declared.entry.Brought.TheVariants.{Nothing}
+use Rattle.up_model.specs.declared.entry.Call.{Call}
+use Rattle.up_model.specs.declared.entry.Call.TheVariants.{Retry}
+use Rattle.up_model.specs.declared.entry.Reply.{Reply}
+use Rattle.up_model.proofs.Holding.{waits_may_retry}
 use Rattle.pagerd.specs.Stage.{Staged, Acted}
 use Rattle.pagerd.specs.Steps.{retry_of, parked_at}
 use Rattle.pagerd.proofs.Staging.{get_within, get_is, some_same, keeps_by, acted_by}

@@ -1,7 +1,7 @@
 use Rattle.std.proofs.Common.{◌≡◌, ◌+◌, ◌-◌, ℕ, IfOk, take, drop, sym, subst, ap, ◌∙◌, arith}
 use Rattle.std.proofs.lemmas.Result.{IfOk-weaker}
-use Rattle.up_journal.specs.Legal.{Life}
-use Rattle.up_journal.specs.Value.{bytes_from}
+use Rattle.up_model.specs.Legal.{Life}
+use Rattle.up_model.specs.Value.{bytes_from}
 use Rattle.up_state.specs.Stands.{PageStands}
 use Rattle.up_state.specs.declared.page.Page.TheVariants.{Held}
 use Rattle.up_state.proofs.Looking.{bytes_held}

@@ -1,5 +1,5 @@
 use Rattle.std.proofs.Common.{option_map, ap, ◌∙◌}
-use Rattle.up_journal.proofs.Waiting.{parked_within}
+use Rattle.up_model.proofs.Waiting.{parked_within}
 use Rattle.up_state.specs.Asking.{access_of}
 use Rattle.up_state.proofs.object.Object.ticket.Goals as goal
 

@@ -1,10 +1,10 @@
 use Rattle.std.proofs.Common.{◌≡◌, ℕ, IfOk, subst, ◌∙◌}
 use Rattle.std.proofs.lemmas.Result.{IfOk-weaker}
 use Rattle.up_num.specs.declared.answers.AskKind.{AskKind}
-use Rattle.up_journal.specs.declared.entry.Call.{Call}
-use Rattle.up_journal.specs.Legal.{Life}
-use Rattle.up_journal.specs.Asks.{resolves}
-use Rattle.up_journal.specs.Tickets.{woken}
+use Rattle.up_model.specs.declared.entry.Call.{Call}
+use Rattle.up_model.specs.Legal.{Life}
+use Rattle.up_model.specs.Asks.{resolves}
+use Rattle.up_model.specs.Tickets.{woken}
 use Rattle.up_state.specs.Asking.{event_of, woken_among}
 use Rattle.up_state.proofs.Looking.{woken_is}
 use Rattle.up_state.proofs.object.Object.waking.Goals as goal

@@ -1,0 +1,154 @@
+-- One page more of the runs that a loop makes, and one page more of a list in order.
+use Rattle.std.proofs.Common.{◌≡◌, ◌<◌, ◌≤◌, ℕ, ◌+◌, ◌-◌, Bool, true, false, cond, Option, Some, None, List, [], ◌∷◌, ◌++◌, map, take, drop, length, get_or, zero, suc, refl, sym, ap, ◌∙◌, append_assoc, append-nil, length-append, arith}
+use Rattle.std.proofs.lemmas.List.{map-append, take_more, drop_more}
+use Rattle.up_num.specs.Span.{Span}
+use Rattle.up_num.specs.declared.pages.DirtyRange.{DirtyRange}
+use Rattle.up_model.specs.Pages.{list_pages, runs, closed, kind_runs, closed_kind, same_kind_of_page}
+use Rattle.up_model.specs.Order.{put_in, put_in_order}
+use Rattle.up_journal.specs.Tested.{run_after, HasPages}
+use Rattle.up_journal.specs.declared.slow.ranges.Run.{Run}
+use Rattle.up_journal.proofs.PageRuns.{next_place, left}
+
+runs_more : (test : ℕ → Bool) (p c n : ℕ) → 0 < n →
+    runs test p c n ≡ cond (test p) (runs test (p + 1) (c + 1) (n - 1)) (closed p c ++ runs test (p + 1) 0 (n - 1))
+runs_more test p c zero h = absurd (omega arith)
+runs_more test p c (suc n) h =
+    let less : n ≡ suc n - 1 = omega arith in
+    ap (λ k. cond (test p) (runs test (p + 1) (c + 1) k) (closed p c ++ runs test (p + 1) 0 k)) less
+
+runs_by : {A : Type 0} (made : Span → A) (test : ℕ → Bool) (passes : Bool) (xs : List A) (p c n : ℕ) →
+    xs ++ map made (cond passes (runs test (p + 1) (c + 1) n) (closed p c ++ runs test (p + 1) 0 n))
+    ≡ cond passes xs (xs ++ map made (closed p c)) ++ map made (runs test (p + 1) (cond passes (c + 1) 0) n)
+runs_by made test true xs p c n = refl
+runs_by made test false xs p c n =
+    ap (λ ys. xs ++ ys) (map-append made (closed p c) (runs test (p + 1) 0 n))
+    ∙ sym (append_assoc xs (map made (closed p c)) (map made (runs test (p + 1) 0 n)))
+
+pub runs_step : {A : Type 0} (made : Span → A) (test : ℕ → Bool) (xs : List A) (first place count c : ℕ) → place < count →
+    xs ++ map made (runs test (first + place) c (count - place))
+    ≡ cond (test (first + place)) xs (xs ++ map made (closed (first + place) c))
+    ++ map made (runs test (first + (place + 1)) (cond (test (first + place)) (c + 1) 0) (count - (place + 1)))
+runs_step made test xs first place count c h =
+    let some : 0 < count - place = omega arith in
+    ap (λ ys. xs ++ map made ys) (runs_more test (first + place) c (count - place) some)
+    ∙ runs_by made test (test (first + place)) xs (first + place) c (count - place - 1)
+    ∙ ap (λ p. cond (test (first + place)) xs (xs ++ map made (closed (first + place) c))
+    ++ map made (runs test p (cond (test (first + place)) (c + 1) 0) (count - place - 1))) (next_place first place)
+    ∙ ap (λ n. cond (test (first + place)) xs (xs ++ map made (closed (first + place) c))
+    ++ map made (runs test (first + (place + 1)) (cond (test (first + place)) (c + 1) 0) n)) (left place count)
+
+kinds_more : (kind : ℕ → Option Bool) (p : ℕ) (now : Option Bool) (c n : ℕ) → 0 < n →
+    kind_runs kind p now c n ≡ cond (same_kind_of_page (kind p) now)
+    (kind_runs kind (p + 1) now (c + 1) (n - 1)) (closed_kind p now c ++ kind_runs kind (p + 1) (kind p) 1 (n - 1))
+kinds_more kind p now c zero h = absurd (omega arith)
+kinds_more kind p now c (suc n) h =
+    let less : n ≡ suc n - 1 = omega arith in
+    ap (λ k. cond (same_kind_of_page (kind p) now) (kind_runs kind (p + 1) now (c + 1) k) (closed_kind p now c ++ kind_runs kind (p + 1) (kind p) 1 k)) less
+
+-- the run after one page more, as two choices
+abbrev pub after_kind : Bool → Option Bool → Run → Run
+after_kind same new run = cond same (record { kind = run.kind; count = run.count + 1 }) (record { kind = new; count = 1 })
+
+kinds_by : (kind : ℕ → Option Bool) (same : Bool) (new : Option Bool) (xs : List DirtyRange) (p : ℕ) (run : Run) (n : ℕ) →
+    xs ++ cond same (kind_runs kind (p + 1) run.kind (run.count + 1) n) (closed_kind p run.kind run.count ++ kind_runs kind (p + 1) new 1 n)
+    ≡ cond same xs (xs ++ closed_kind p run.kind run.count)
+    ++ kind_runs kind (p + 1) (after_kind same new run).kind (after_kind same new run).count n
+kinds_by kind true new xs p run n = refl
+kinds_by kind false new xs p run n = sym (append_assoc xs (closed_kind p run.kind run.count) (kind_runs kind (p + 1) new 1 n))
+
+pub kinds_step : (kind : ℕ → Option Bool) (xs : List DirtyRange) (first place count : ℕ) (run : Run) → place < count →
+    xs ++ kind_runs kind (first + place) run.kind run.count (count - place)
+    ≡ cond (same_kind_of_page (kind (first + place)) run.kind) xs (xs ++ closed_kind (first + place) run.kind run.count)
+    ++ kind_runs kind (first + (place + 1)) (run_after (kind (first + place)) run).kind (run_after (kind (first + place)) run).count (count - (place + 1))
+kinds_step kind xs first place count run h =
+    let some : 0 < count - place = omega arith in
+    ap (λ ys. xs ++ ys) (kinds_more kind (first + place) run.kind run.count (count - place) some)
+    ∙ kinds_by kind (same_kind_of_page (kind (first + place)) run.kind) (kind (first + place)) xs (first + place) run (count - place - 1)
+    ∙ ap (λ p. cond (same_kind_of_page (kind (first + place)) run.kind) xs (xs ++ closed_kind (first + place) run.kind run.count)
+    ++ kind_runs kind p (run_after (kind (first + place)) run).kind (run_after (kind (first + place)) run).count (count - place - 1)) (next_place first place)
+    ∙ ap (λ n. cond (same_kind_of_page (kind (first + place)) run.kind) xs (xs ++ closed_kind (first + place) run.kind run.count)
+    ++ kind_runs kind (first + (place + 1)) (run_after (kind (first + place)) run).kind (run_after (kind (first + place)) run).count n) (left place count)
+
+-- the same for a list and a run that are known by equations
+pub kinds_next : (kind : ℕ → Option Bool) (xs new : List DirtyRange) (total : List DirtyRange) (first place count : ℕ) (run next : Run) (here : Option Bool) →
+    place < count → here ≡ kind (first + place) → next ≡ run_after here run →
+    new ≡ cond (same_kind_of_page here run.kind) xs (xs ++ closed_kind (first + place) run.kind run.count) →
+    xs ++ kind_runs kind (first + place) run.kind run.count (count - place) ≡ total →
+    new ++ kind_runs kind (first + (place + 1)) next.kind next.count (count - (place + 1)) ≡ total
+kinds_next kind xs new total first place count run next here h is_here is_next is_new whole =
+    rw (is_new, is_next, is_here) (sym (kinds_step kind xs first place count run h) ∙ whole)
+
+longer : (kind : Option Bool) (count : ℕ) → HasPages kind (count + 1)
+longer None count = tt
+longer (Some blank) count = omega arith
+
+within_by : (same : Bool) (kind : Option Bool) (run : Run) (place : ℕ) → run.count ≤ place → (after_kind same kind run).count ≤ place + 1
+within_by true kind run place h = omega arith
+within_by false kind run place h = omega arith
+
+some_by : (same : Bool) (kind : Option Bool) (run : Run) → HasPages (after_kind same kind run).kind (after_kind same kind run).count
+some_by true kind run = longer run.kind run.count
+some_by false kind run = longer kind 0
+
+closed_few : (xs : List DirtyRange) (p : ℕ) (kind : Option Bool) (count place : ℕ) → HasPages kind count → length xs + count ≤ place →
+    length (xs ++ closed_kind p kind count) ≤ place
+closed_few xs p None count place has h = rw append-nil (omega arith)
+closed_few xs p (Some blank) count place has h =
+    rw (length-append xs (record { range = record { first = p - count; count = count }; zero = blank } ∷ [])) (omega arith)
+
+few_by : (same : Bool) (kind : Option Bool) (xs : List DirtyRange) (p place : ℕ) (run : Run) → HasPages run.kind run.count →
+    length xs + run.count ≤ place → length (cond same xs (xs ++ closed_kind p run.kind run.count)) + (after_kind same kind run).count ≤ place + 1
+few_by true kind xs p place run has h = omega arith
+few_by false kind xs p place run has h = let few : length (xs ++ closed_kind p run.kind run.count) ≤ place = closed_few xs p run.kind run.count place has h in omega arith
+
+pub run_within : (kind : Option Bool) (run next : Run) (place : ℕ) → next ≡ run_after kind run → run.count ≤ place → next.count ≤ place + 1
+run_within kind run next place is_next h = rw is_next (within_by (same_kind_of_page kind run.kind) kind run place h)
+
+pub run_some : (kind : Option Bool) (run next : Run) → next ≡ run_after kind run → HasPages next.kind next.count
+run_some kind run next is_next = rw is_next (some_by (same_kind_of_page kind run.kind) kind run)
+
+pub run_few : (kind : Option Bool) (xs new : List DirtyRange) (p place : ℕ) (run next : Run) → next ≡ run_after kind run →
+    new ≡ cond (same_kind_of_page kind run.kind) xs (xs ++ closed_kind p run.kind run.count) → HasPages run.kind run.count →
+    length xs + run.count ≤ place → length new + next.count ≤ place + 1
+run_few kind xs new p place run next is_next is_new has h = rw (is_new, is_next) (few_by (same_kind_of_page kind run.kind) kind xs p place run has h)
+
+-- where the page goes before the one at this place, and where it doesn't
+put_next : (goes : ℕ → ℕ → Bool) (p q : ℕ) (qs : List ℕ) → goes p q ≡ false → put_in goes p (q ∷ qs) ≡ q ∷ put_in goes p qs
+put_next goes p q qs f = rw f refl
+
+put_now : (goes : ℕ → ℕ → Bool) (p q : ℕ) (qs : List ℕ) → goes p q ≡ true → put_in goes p (q ∷ qs) ≡ p ∷ q ∷ qs
+put_now goes p q qs t = rw t refl
+
+pub put_step : (goes : ℕ → ℕ → Bool) (p : ℕ) (xs : List ℕ) (i : ℕ) → i < length xs → goes p (get_or xs i 0) ≡ false →
+    take i xs ++ put_in goes p (drop i xs) ≡ take (i + 1) xs ++ put_in goes p (drop (i + 1) xs)
+put_step goes p xs i h f =
+    ap (λ ys. take i xs ++ put_in goes p ys) (drop_more xs i 0 h)
+    ∙ ap (λ ys. take i xs ++ ys) (put_next goes p (get_or xs i 0) (drop (i + 1) xs) f)
+    ∙ sym (append_assoc (take i xs) (get_or xs i 0 ∷ []) (put_in goes p (drop (i + 1) xs)))
+    ∙ ap (λ ys. ys ++ put_in goes p (drop (i + 1) xs)) (sym (take_more xs i 0 h))
+
+pub put_here : (goes : ℕ → ℕ → Bool) (p : ℕ) (xs : List ℕ) (i : ℕ) → i < length xs → goes p (get_or xs i 0) ≡ true →
+    take i xs ++ put_in goes p (drop i xs) ≡ take i xs ++ p ∷ drop i xs
+put_here goes p xs i h t =
+    let now : drop i xs ≡ get_or xs i 0 ∷ drop (i + 1) xs = drop_more xs i 0 h in
+    ap (λ ys. take i xs ++ ys)
+    (ap (λ ys. put_in goes p ys) now ∙ put_now goes p (get_or xs i 0) (drop (i + 1) xs) t ∙ ap (λ ys. p ∷ ys) (sym now))
+
+put_by : (goes : ℕ → ℕ → Bool) (passes : Bool) (p : ℕ) (ps : List ℕ) →
+    put_in_order goes (cond passes (p ∷ ps) ps) ≡ cond passes (put_in goes p (put_in_order goes ps)) (put_in_order goes ps)
+put_by goes true p ps = refl
+put_by goes false p ps = refl
+
+-- the page before those that are in order already
+pub order_step : (goes : ℕ → ℕ → Bool) (test : ℕ → Bool) (size place : ℕ) → place < size →
+    put_in_order goes (list_pages test (size - (place + 1)) (place + 1))
+    ≡ cond (test (size - 1 - place)) (put_in goes (size - 1 - place) (put_in_order goes (list_pages test (size - place) place)))
+    (put_in_order goes (list_pages test (size - place) place))
+order_step goes test size place h =
+    let here : size - (place + 1) ≡ size - 1 - place = omega arith in
+    let next : size - 1 - place + 1 ≡ size - place = omega arith in
+    let one : place + 1 ≡ suc place = omega arith in
+    ap (λ p. put_in_order goes (list_pages test p (place + 1))) here
+    ∙ ap (λ n. put_in_order goes (list_pages test (size - 1 - place) n)) one
+    ∙ put_by goes (test (size - 1 - place)) (size - 1 - place) (list_pages test (size - 1 - place + 1) place)
+    ∙ ap (λ p. cond (test (size - 1 - place)) (put_in goes (size - 1 - place) (put_in_order goes (list_pages test p place))) (put_in_order goes (list_pages test p place))) next

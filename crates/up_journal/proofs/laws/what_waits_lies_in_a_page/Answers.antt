@@ -1,5 +1,0 @@
-use Rattle.up_journal.proofs.Waiting.{parked_within}
-use Rattle.up_journal.proofs.laws.what_waits_lies_in_a_page.Goals as goal
-
-pub returns : goal.returns
-returns c = parked_within

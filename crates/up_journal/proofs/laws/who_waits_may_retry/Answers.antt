@@ -1,5 +1,0 @@
-use Rattle.up_journal.proofs.Holding.{waits_may_retry}
-use Rattle.up_journal.proofs.laws.who_waits_may_retry.Goals as goal
-
-pub returns : goal.returns
-returns c = waits_may_retry

@@ -1,0 +1,31 @@
+pub mod Bools
+pub mod Equations
+pub mod Blocking
+pub mod Waiting
+pub mod Holding
+pub mod Steps
+pub mod Effects
+pub mod Passed
+pub mod Presence
+pub mod Reclaiming
+pub mod Placing
+pub mod Placed
+pub mod PlacedUse
+pub mod PlacedTickets
+pub mod PlacedMarks
+pub mod PinCounts
+pub mod Detaching
+mod JournalWords
+mod RowsWaiting
+mod RowsWriteback
+mod RowsReclaim
+mod RowsPager
+mod ComputedDeeds
+mod ComputedStates
+mod ComputedAsks
+mod ComputedOrder
+mod ComputedReplies
+pub mod Fates
+pub mod Refusing
+pub mod Resting
+mod Same

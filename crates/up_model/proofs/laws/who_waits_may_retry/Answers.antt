@@ -1,0 +1,5 @@
+use Rattle.up_model.proofs.Holding.{waits_may_retry}
+use Rattle.up_model.proofs.laws.who_waits_may_retry.Goals as goal
+
+pub returns : goal.returns
+returns c = waits_may_retry

@@ -1,0 +1,26 @@
+//! Laws over all legal journals: where bytes are, what is evicted, and why an access is refused. Each is a function with an
+//! empty body, whose clauses are the law.
+ghost use Rattle.up_model.specs.Causes.{BytesStandInPages, PagesLieWithin, EvictsClean, EvictsUnpinned, EvictsUnprotected, RangeHasCause, DetachedHasCause, PagerHasCause, NoFramesHasCause};
+
+/// A byte has a value exactly where its page is there, and such a page lies within the object.
+pub fn a_byte_stands_in_a_page()
+    ensures bytes { BytesStandInPages }
+    ensures pages { PagesLieWithin }
+{}
+
+/// A page that an evict lists, or a vacate evicts, was clean, had no pins and wasn't protected.
+pub fn what_is_evicted_was_loose()
+    ensures clean { EvictsClean }
+    ensures unpinned { EvictsUnpinned }
+    ensures unprotected { EvictsUnprotected }
+{}
+
+/// A refused access has its cause in the journal. One refused for its range doesn't fit, or its page was cut off while it
+/// waited; one refused for detachment stands in a detached journal; one with a code of the pager had its page failed with
+/// that code while it waited; one for want of a frame brought a scan, for a page that is plain or under a loaned frame.
+pub fn a_refused_access_has_its_cause()
+    ensures range { RangeHasCause }
+    ensures detached { DetachedHasCause }
+    ensures pager { PagerHasCause }
+    ensures no_frames { NoFramesHasCause }
+{}

@@ -1,0 +1,14 @@
+//! The journal of an object: the entries that its calls leave, the log that keeps them, and (in `specs/`)
+//! the definitions that say what each call answers after a journal.
+#![tactic(auto)]
+
+pub mod causes;
+mod entry;
+pub mod laws;
+mod log;
+pub mod positions;
+#[cfg(test)]
+mod tests;
+
+pub use entry::{Birth, Brought, Call, Entries, Entry, HintKind, Reply, Role, Told};
+pub use log::Log;
