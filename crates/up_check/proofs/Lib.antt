@@ -1,1 +1,2 @@
 pub mod Illegal
+mod Computed
