@@ -29,3 +29,9 @@ pub mod Fates
 pub mod Refusing
 pub mod Resting
 mod Same
+pub mod Lasting
+pub mod Surviving
+pub mod ReadBytes
+pub mod ReadBack
+pub mod Ordered
+pub mod Meant
