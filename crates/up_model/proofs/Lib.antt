@@ -25,6 +25,8 @@ mod ComputedStates
 mod ComputedAsks
 mod ComputedOrder
 mod ComputedReplies
+mod ComputedTests
+mod RowsSurvival
 pub mod Fates
 pub mod Refusing
 pub mod Resting
