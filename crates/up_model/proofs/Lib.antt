@@ -25,7 +25,15 @@ mod ComputedStates
 mod ComputedAsks
 mod ComputedOrder
 mod ComputedReplies
+mod ComputedTests
+mod RowsSurvival
 pub mod Fates
 pub mod Refusing
 pub mod Resting
 mod Same
+pub mod Lasting
+pub mod Surviving
+pub mod ReadBytes
+pub mod ReadBack
+pub mod Ordered
+pub mod Meant

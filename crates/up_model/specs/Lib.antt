@@ -20,3 +20,7 @@ pub mod Legal
 pub mod Positions
 pub mod Laws
 pub mod Causes
+pub mod Lasts
+pub mod Survival
+pub mod Ordering
+pub mod Meanings

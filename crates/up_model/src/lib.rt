@@ -6,7 +6,10 @@ pub mod causes;
 mod entry;
 pub mod laws;
 mod log;
+pub mod meanings;
+pub mod ordering;
 pub mod positions;
+pub mod survival;
 #[cfg(test)]
 mod tests;
 
