@@ -28,4 +28,11 @@ mod ComputedReplies
 pub mod Fates
 pub mod Refusing
 pub mod Resting
+pub mod Blocked
+pub mod Asked
+pub mod Sending
+pub mod Going
+pub mod Quiet
+pub mod Kept
+pub mod Touching
 mod Same

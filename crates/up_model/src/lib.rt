@@ -7,6 +7,7 @@ mod entry;
 pub mod laws;
 mod log;
 pub mod positions;
+pub mod standing;
 #[cfg(test)]
 mod tests;
 
