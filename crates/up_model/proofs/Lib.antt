@@ -35,4 +35,5 @@ pub mod Going
 pub mod Quiet
 pub mod Kept
 pub mod Touching
+pub mod Resolved
 mod Same
