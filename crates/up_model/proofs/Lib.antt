@@ -30,6 +30,14 @@ mod RowsSurvival
 pub mod Fates
 pub mod Refusing
 pub mod Resting
+pub mod Blocked
+pub mod Asked
+pub mod Sending
+pub mod Going
+pub mod Quiet
+pub mod Kept
+pub mod Touching
+pub mod Resolved
 mod Same
 pub mod Lasting
 pub mod Surviving

@@ -17,6 +17,10 @@ pub mod Newest
 pub mod Parked
 pub mod Reply
 pub mod Legal
+pub mod Looks
+pub mod Concerns
+pub mod Changes
+pub mod Standing
 pub mod Positions
 pub mod Laws
 pub mod Causes

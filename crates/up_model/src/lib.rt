@@ -9,6 +9,7 @@ mod log;
 pub mod meanings;
 pub mod ordering;
 pub mod positions;
+pub mod standing;
 pub mod survival;
 #[cfg(test)]
 mod tests;
