@@ -7,7 +7,7 @@ use Rattle.up_model.specs.Parked.{retried}
 use Rattle.up_model.proofs.Bools.{and_left, and_right, not_true, nat_eq_true, nat_eq-same, differ}
 use Rattle.up_script.specs.declared.script.Line.{Line}
 use Rattle.pagerd.specs.Built.{is_built_action, is_able_line, are_able}
-use Rattle.pagerd.specs.Steps.{Entered, Aimed, is_go, acts, call_of, aim_of, calls_of, parks, begun, retry_of, parked_to_retry, LineBegins, Block, LineDone, Steps}
+use Rattle.pagerd.specs.Steps.{Entered, Aimed, is_go, acts, call_of, aim_of, calls_of, parks, lines_begun, retry_of, parked_to_retry, LineBegins, Block, LineDone, Steps}
 use Rattle.pagerd.specs.Stage.{Staged, entry_of, Acted, Rested, Passed, or_nowhere, waits_at, Began, SameShape, EnteredFor, Paced, StoodAt, Further, GoesOn, WentOn, Did, GoneThrough}
 use Rattle.pagerd.specs.declared.steps.Parked.{Parked}
 use Rattle.pagerd.proofs.Staging.{get_within, some_same, entered_acted, entered_same, births_acted, built_no_retry}
@@ -45,15 +45,15 @@ next_call (x ∷ xs) who (suc at) (suc end) line is lt a =
     ]
 
 -- an entry of a call that is no retry begins a line of its actor, and of no other
-begun_own : (x : Entered) (g : List Entered) (who : ℕ) → x.entry.who ≡ who → retried x.entry.call ≡ None → begun (x ∷ g) who ≡ suc (begun g who)
+begun_own : (x : Entered) (g : List Entered) (who : ℕ) → x.entry.who ≡ who → retried x.entry.call ≡ None → lines_begun (x ∷ g) who ≡ suc (lines_begun g who)
 begun_own x g who own none = rw (own, none, nat_eq-same who) refl
 
-begun_other : (x : Entered) (g : List Entered) (who : ℕ) → (x.entry.who == who) ≡ false → begun (x ∷ g) who ≡ begun g who
+begun_other : (x : Entered) (g : List Entered) (who : ℕ) → (x.entry.who == who) ≡ false → lines_begun (x ∷ g) who ≡ lines_begun g who
 begun_other x g who other = rw other refl
 
 -- an entry of a retry begins no line
-begun_retry : (x : Entered) (g : List Entered) (who ticket : ℕ) → retried x.entry.call ≡ Some ticket → begun (x ∷ g) who ≡ begun g who
-begun_retry x g who ticket some = rw some (elim (x.entry.who == who) as (λ b. cond (b && false) (suc (begun g who)) (begun g who) ≡ begun g who) [ true ↦ refl | false ↦ refl ])
+begun_retry : (x : Entered) (g : List Entered) (who ticket : ℕ) → retried x.entry.call ≡ Some ticket → lines_begun (x ∷ g) who ≡ lines_begun g who
+begun_retry x g who ticket some = rw some (elim (x.entry.who == who) as (λ b. cond (b && false) (suc (lines_begun g who)) (lines_begun g who) ≡ lines_begun g who) [ true ↦ refl | false ↦ refl ])
 
 block_start : (lines : List Line) (who : ℕ) (g : List Entered) → Block lines who g g
 block_start lines who [] = refl
@@ -61,11 +61,11 @@ block_start lines who (x ∷ before) = inl refl
 
 -- the paces after one actor is done to line `next`
 paced_set : (lines : List Line) (end who next : ℕ) (h new : List Entered) (done to : List ℕ) → Paced lines end done h → who < length done → next ≤ end → to ≡ slice_set done who next →
-    begun new who ≡ length (calls_of (take next lines) who) → ((v : ℕ) → (who == v) ≡ false → begun new v ≡ begun h v) → Paced lines end to new
+    lines_begun new who ≡ length (calls_of (take next lines) who) → ((v : ℕ) → (who == v) ≡ false → lines_begun new v ≡ lines_begun h v) → Paced lines end to new
 paced_set lines end who next h new done to s known low set mine others = rw set (record {
-  pace = λ v v_lt. elim (who == v) as (λ b. (who == v) ≡ b → begun new v ≡ length (calls_of (take (slice_index (slice_set done who next) v) lines) v)) [
+  pace = λ v v_lt. elim (who == v) as (λ b. (who == v) ≡ b → lines_begun new v ≡ length (calls_of (take (slice_index (slice_set done who next) v) lines) v)) [
     | true ↦ λ q. let same : who ≡ v = nat_eq_true who v q in
-        subst (λ (u : ℕ). begun new u ≡ length (calls_of (take (slice_index (slice_set done who next) u) lines) u)) same
+        subst (λ (u : ℕ). lines_begun new u ≡ length (calls_of (take (slice_index (slice_set done who next) u) lines) u)) same
         (mine ∙ ap (λ (n : ℕ). length (calls_of (take n lines) who)) (sym (get_or-set_same done who next 0 known)))
     | false ↦ λ q. let apart : v ≡ who → ⊥ = λ e. differ who v q (sym e) in
         others v q ∙ s.pace v (rw length-set at v_lt) ∙ ap (λ (n : ℕ). length (calls_of (take n lines) v)) (sym (get_or-set_other done who v next 0 apart))
@@ -94,7 +94,7 @@ rested_shape : (old new : Staged) → Rested old new → SameShape old new
 rested_shape old new r = record { births = ap (map (λ (l : Life). l.birth)) r.lives; lives = ap length r.lives; waits = ap length r.waits; done = ap length r.done }
 
 -- how far the actor itself came
-mine_at : (lines : List Line) (who end at : ℕ) (g : List Entered) (stage : Staged) → StoodAt lines end g stage → slice_index stage.done who ≡ at → who < length stage.done → begun g who ≡ length (calls_of (take at lines) who)
+mine_at : (lines : List Line) (who end at : ℕ) (g : List Entered) (stage : Staged) → StoodAt lines end g stage → slice_index stage.done who ≡ at → who < length stage.done → lines_begun g who ≡ length (calls_of (take at lines) who)
 mine_at lines who end at g stage s here known = s.paced.pace who known ∙ ap (λ (n : ℕ). length (calls_of (take n lines) who)) here
 
 -- an actor that isn't kept to wait doesn't wait
@@ -230,7 +230,7 @@ record BeganFor (g : List Entered) (mid : Staged) (line : Line) : Type 0 where
   pub now : List Entered
   pub entered : EnteredFor now mid
   pub begins : LineBegins line g now
-  pub same : (who : ℕ) → begun now who ≡ begun g who
+  pub same : (who : ℕ) → lines_begun now who ≡ lines_begun g who
 
 began_by : (g : List Entered) (old mid : Staged) (line : Line) (o : Option Parked) → line.actor < length old.waits → EnteredFor g old → parked_to_retry g line ≡ o →
     MatchOption o (Rested old mid) (λ parked. Acted old mid line.actor (retry_of parked)) → BeganFor g mid line
@@ -266,7 +266,7 @@ began_done : (old mid : Staged) (line : Line) → Began old mid line → mid.don
 began_done old mid line b = began_done_by old mid line (cond (is_go line.action) (waits_at old line.actor) None) b
 
 -- entries that begin no line keep the paces, which hold for a later end too
-paced_began : (lines : List Line) (end later : ℕ) (done to : List ℕ) (g h : List Entered) → to ≡ done → ((who : ℕ) → begun h who ≡ begun g who) → end ≤ later → Paced lines end done g → Paced lines later to h
+paced_began : (lines : List Line) (end later : ℕ) (done to : List ℕ) (g h : List Entered) → to ≡ done → ((who : ℕ) → lines_begun h who ≡ lines_begun g who) → end ≤ later → Paced lines end done g → Paced lines later to h
 paced_began lines end later done to g h is same le p = rw is (record {
   pace = λ who lt. same who ∙ p.pace who lt;
   low = λ who lt. let low : slice_index done who ≤ end = p.low who lt in omega arith;

@@ -4,7 +4,7 @@ use Rattle.std.specs.Bool.{MatchBool}
 use Rattle.up_model.specs.Legal.{Life, after, due}
 use Rattle.up_model.specs.Parked.{waits_after}
 use Rattle.up_script.specs.declared.script.Line.{Line}
-use Rattle.pagerd.specs.Steps.{Entered, Aimed, of_object, parked_at, parks, begun, calls_of, aim_of, is_go, acts, retry_of, Block, IsDone, LineDone, Steps}
+use Rattle.pagerd.specs.Steps.{Entered, Aimed, of_object, parked_at, parks, lines_begun, calls_of, aim_of, is_go, acts, retry_of, Block, IsDone, LineDone, Steps}
 use Rattle.pagerd.specs.declared.steps.Parked.{Parked}
 
 -- what contracts see of it: each object's birth and journal, where each actor waits, and up to which line its lines are done
@@ -70,7 +70,7 @@ pub record EnteredFor (g : List Entered) (stage : Staged) : Type 0 where
 
 -- each actor has begun its lines up to that to which it is done, and no line from `most` on
 pub record Paced (lines : List Line) (most : ℕ) (done : List ℕ) (g : List Entered) : Type 0 where
-  pub pace : (who : ℕ) → who < length done → begun g who ≡ length (calls_of (take (slice_index done who) lines) who)
+  pub pace : (who : ℕ) → who < length done → lines_begun g who ≡ length (calls_of (take (slice_index done who) lines) who)
   pub low : (who : ℕ) → who < length done → slice_index done who ≤ most
 
 -- entries g stood for the stage before, with paces up to line `end`

@@ -36,14 +36,14 @@ is_go Go = true
 is_go _ = false
 
 -- the call that a line names, with what it brings: a supply has a frame for each page
-abbrev pub with_frames : Call → Call
-with_frames (Supply range bytes brought) = Supply range bytes (Frames range.count)
-with_frames call = call
+abbrev pub framed : Call → Call
+framed (Supply range bytes brought) = Supply range bytes (Frames range.count)
+framed call = call
 
 -- the call of a line that isn't a go. (No line of another form is done today.)
 abbrev pub call_of : Action → Call
 call_of (Read object off len) = ReadCall (record { off = off; len = len }) (record { 0 = off / 4096 }) Nothing
-call_of (Act object call) = with_frames call
+call_of (Act object call) = framed call
 call_of _ = Packet
 
 -- the object of such a line
@@ -70,9 +70,9 @@ calls_of [] who = []
 calls_of (line ∷ lines) who = cond (acts who line) (aim_of line.action ∷ calls_of lines who) (calls_of lines who)
 
 -- how many of its lines an actor has begun: each entry of its that is no retry begins one
-abbrev pub begun : List Entered → ℕ → ℕ
-begun [] who = 0
-begun (x ∷ before) who = cond ((x.entry.who == who) && is_none (retried x.entry.call)) (suc (begun before who)) (begun before who)
+abbrev pub lines_begun : List Entered → ℕ → ℕ
+lines_begun [] who = 0
+lines_begun (x ∷ before) who = cond ((x.entry.who == who) && is_none (retried x.entry.call)) (suc (lines_begun before who)) (lines_begun before who)
 
 -- an entry by this actor, at epoch 0, of this call on this object
 pub record IsCallBy (x : Entered) (who : ℕ) (aim : Aimed) : Type 0 where
@@ -100,7 +100,7 @@ pub record IsNext (lines : List Line) (who : ℕ) (h : List Entered) (x : Entere
   pub free : parks h who ≡ None
   pub aim : Aimed
   pub own : IsCallBy x who aim
-  pub next : slice_get (calls_of lines who) (begun h who) ≡ Some aim
+  pub next : slice_get (calls_of lines who) (lines_begun h who) ≡ Some aim
 
 -- h is `first` and a block of such entries
 abbrev pub Block : List Line → ℕ → List Entered → List Entered → Type 0
@@ -109,7 +109,7 @@ Block lines who first (x ∷ before) = (first ≡ x ∷ before) ⊎ (Block lines
 
 -- a block goes on until its actor waits, or has begun all its lines so far
 abbrev pub IsDone : List Line → ℕ → List Entered → Type 0
-IsDone lines who h = IsSome (parks h who) ⊎ (begun h who ≡ length (calls_of lines who))
+IsDone lines who h = IsSome (parks h who) ⊎ (lines_begun h who ≡ length (calls_of lines who))
 
 -- one line more: what it begins with, its block, and that the block goes on as far as it can
 pub record LineDone (lines : List Line) (line : Line) (start h : List Entered) : Type 0 where

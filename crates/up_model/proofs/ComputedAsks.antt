@@ -1,12 +1,12 @@
 -- What is asked of the pager, and what becomes of those who wait, computed at small journals.
-use Rattle.std.specs.Prelude.{◌≡◌, ◌==◌, not, true, false, cond, Some, None, [], ◌∷◌, refl}
+use Rattle.std.specs.Prelude.{◌≡◌, ◌==◌, true, false, Some, None, [], ◌∷◌, refl}
 use Rattle.up_num.specs.declared.answers.AskKind.TheVariants.{Read as ReadAsk, Dirty as DirtyAsk}
 use Rattle.up_num.specs.declared.answers.Outcome.TheVariants.{Freed, Failed, Shrunk, Detached as DetachedOutcome, Waiting as NothingYet}
 use Rattle.up_num.specs.declared.answers.Code.TheVariants.{Io}
 use Rattle.up_num.specs.declared.answers.Packet.TheVariants.{Read as ReadPacket, Dirty as DirtyPacket, Complete}
 use Rattle.up_model.specs.declared.entry.Brought.TheVariants.{Nothing}
 use Rattle.up_model.specs.declared.entry.Role.TheVariants.{User, Pager}
-use Rattle.up_model.proofs.JournalWords.{range, run_of_zeros, run_of_bytes, born, free, trapping, by, supply, at, reading, writing, ask}
+use Rattle.up_model.proofs.JournalWords.{range, born, free, trapping, by, supply, at, reading, writing, ask}
 use Rattle.up_model.proofs.RowsReclaim.{cut_while_waiting}
 use Rattle.up_model.proofs.RowsWaiting.{retried_too_early, asked_and_supplied, overlapping_accesses, three_pages_one_there, supplied_in_the_middle, failed_pages, detached_while_waiting, detached_with_both_asks, scanned_for_frames}
 use Rattle.up_model.proofs.RowsWriteback.{written_since_its_begin, asked_before_dirty, emptied_under_a_write}

@@ -1,6 +1,6 @@
 -- The tests of an entry, computed for each kind of call: of all these entries, which all speak of page 0 and were accepted, the
 -- tests hold of exactly the ones that are listed, and of none where they weren't accepted.
-use Rattle.std.specs.Prelude.{◌≡◌, ℕ, ◌++◌, not, Bool, true, false, Some, None, List, [], ◌∷◌, map, refl}
+use Rattle.std.specs.Prelude.{◌≡◌, not, true, false, Some, List, [], ◌∷◌, map, refl}
 use Rattle.std.specs.List.{filter}
 use Rattle.up_num.specs.declared.answers.AskKind.TheVariants.{Read as ReadAsk, Dirty as DirtyAsk}
 use Rattle.up_num.specs.declared.answers.Code.TheVariants.{Io}

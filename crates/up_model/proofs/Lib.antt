@@ -45,3 +45,4 @@ pub mod ReadBytes
 pub mod ReadBack
 pub mod Ordered
 pub mod Meant
+pub mod WaitersAsked

@@ -1,5 +1,5 @@
 -- What an access that must wait asks of the pager, and which pages are asked for.
-use Rattle.std.specs.Prelude.{ℕ, ◌+◌, ◌-◌, min, ◌&&◌, ◌||◌, not, Bool, true, false, cond, Option, Some, None, option_map, List, [], ◌∷◌, nat_le, nat_lt}
+use Rattle.std.specs.Prelude.{ℕ, ◌+◌, ◌-◌, min, ◌&&◌, ◌||◌, not, Bool, false, cond, Option, None, option_map, List, [], ◌∷◌}
 use Rattle.up_num.specs.Span.{covers}
 pub use Rattle.up_num.specs.Asks.{Ask, same_kind, asks, is_waiting}
 use Rattle.up_num.specs.declared.answers.AskKind.{AskKind}
@@ -9,7 +9,7 @@ use Rattle.up_num.specs.declared.answers.Outcome.TheVariants.{Waiting, Freed, Fa
 use Rattle.up_model.specs.Attempts.{Access, page_of, accepts, is_blocked, attempt}
 use Rattle.up_model.specs.Size.{size, asks_to_cut}
 use Rattle.up_model.specs.Value.{there}
-use Rattle.up_model.specs.States.{plain, awaiting, dirty}
+use Rattle.up_model.specs.States.{dirty, empty_at_end}
 use Rattle.up_model.specs.Roles.{detaches}
 use Rattle.up_model.specs.Pages.{run_of}
 use Rattle.up_model.specs.declared.entry.Birth.{Birth}
@@ -44,7 +44,7 @@ wanted birth before e = cond (is_blocked e.reply) (option_map (want birth before
 abbrev pub resolves : Birth → List Entry → Call → AskKind → ℕ → Outcome
 resolves birth h (Supply range bytes brought) ReadAsk p = cond (covers range p) Freed Waiting
 resolves birth h (Dirty range brought) DirtyAsk p = cond (covers range p) Freed Waiting
-resolves birth h (End range) DirtyAsk p = cond (covers range p && (plain birth h p && awaiting birth h p)) Freed Waiting
+resolves birth h (End range) DirtyAsk p = cond (covers range p && empty_at_end birth h p) Freed Waiting
 resolves birth h (Zero range) k p = cond (covers range p) Freed Waiting
 resolves birth h (Fail range code) k p = cond (covers range p) (Failed code) Waiting
 resolves birth h (Resize pages) k p = cond (asks_to_cut (Resize pages) (size birth h) p) Shrunk Waiting

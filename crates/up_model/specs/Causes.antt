@@ -13,8 +13,8 @@ use Rattle.up_model.specs.Value.{value, there}
 use Rattle.up_model.specs.States.{clean, plain}
 use Rattle.up_model.specs.Roles.{detached}
 use Rattle.up_model.specs.Pins.{pins, always, loaned}
-use Rattle.up_model.specs.Asks.{asked}
-use Rattle.up_model.specs.Tickets.{retries, outcome}
+use Rattle.up_model.specs.Asks.{Ask, asked, is_waiting}
+use Rattle.up_model.specs.Tickets.{waits, retries, outcome}
 use Rattle.up_model.specs.Reply.{is_scan}
 use Rattle.up_model.specs.Legal.{Legal}
 use Rattle.up_model.specs.declared.entry.Birth.{Birth}
@@ -47,9 +47,15 @@ EvictsUnprotected = (birth : Birth) (e : Entry) (before : List Entry) → Legal 
 abbrev pub EvictsNoZeros : Type 0
 EvictsNoZeros = (birth : Birth) (e : Entry) (before : List Entry) → Legal birth (e ∷ before) → (p : ℕ) → evicts e p ≡ true → plain birth before p ≡ false
 
--- and nobody waited to make it dirty
+-- and it wasn't asked for to be made dirty
 abbrev pub EvictsUnasked : Type 0
 EvictsUnasked = (birth : Birth) (e : Entry) (before : List Entry) → Legal birth (e ∷ before) → (p : ℕ) → evicts e p ≡ true → asked birth before DirtyAsk p ≡ false
+
+-- so no access whose ticket still waits asks for it, to make it dirty
+abbrev pub EvictsUnawaited : Type 0
+EvictsUnawaited =
+    (birth : Birth) (e : Entry) (before : List Entry) → Legal birth (e ∷ before) → (p : ℕ) → evicts e p ≡ true →
+    (t : ℕ) (a : Ask) → waits birth before t ≡ Some a → a.kind ≡ DirtyAsk → a.first ≡ p → is_waiting (outcome birth before t) ≡ false
 
 -- an entry of this kind stands in the journal, after the one that parked this access under the ticket
 pub record SinceParked (kind : List Entry → Entry → Type 0) (h : List Entry) (ticket : ℕ) (a : Access) : Type 0 where

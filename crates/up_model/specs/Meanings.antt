@@ -7,8 +7,8 @@ use Rattle.up_model.specs.Attempts.{Access, page_of, accepts, is_blocked, blocks
 use Rattle.up_model.specs.Size.{size}
 use Rattle.up_model.specs.Value.{value, value_after}
 use Rattle.up_model.specs.States.{empties}
-use Rattle.up_model.specs.Asks.{resolved}
-use Rattle.up_model.specs.Tickets.{wakes, woken}
+use Rattle.up_model.specs.Asks.{Ask, asked, resolved}
+use Rattle.up_model.specs.Tickets.{waits, outcome, wakes, woken}
 use Rattle.up_model.specs.Newest.{newest}
 use Rattle.up_model.specs.Legal.{Legal}
 use Rattle.up_model.specs.Positions.{first_of, said_at, passes_at, how_many}
@@ -79,3 +79,8 @@ abbrev pub EmptyingFrees : Type 0
 EmptyingFrees =
     (birth : Birth) (e : Entry) (before : List Entry) (range : Span) → e.call ≡ End range → (p : ℕ) →
     resolved birth before e DirtyAsk p ≡ cond (empties birth before e p) Freed Waiting
+
+-- in a legal journal the first page that a waiting access asks for is asked for, as long as nothing has become of its ticket
+abbrev pub WaitersAreAsked : Type 0
+WaitersAreAsked =
+    (birth : Birth) (h : List Entry) → Legal birth h → (t : ℕ) (a : Ask) → waits birth h t ≡ Some a → outcome birth h t ≡ Waiting → asked birth h a.kind a.first ≡ true

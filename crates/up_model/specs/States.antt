@@ -29,6 +29,10 @@ dirty birth h p = unclean birth h p && not (begun birth h p)
 abbrev pub counts : Birth → List Entry → Entry → ℕ → Bool
 counts birth before e p = begins e p && (not (for_zero e.call) || plain birth before p)
 
--- the end empties p: p was plain and awaiting
+-- p is a zero page that awaits the end of its writeback: that end will empty it
+abbrev pub empty_at_end : Birth → List Entry → ℕ → Bool
+empty_at_end birth h p = plain birth h p && awaiting birth h p
+
+-- the end empties p
 abbrev pub empties : Birth → List Entry → Entry → ℕ → Bool
-empties birth before e p = ends e p && (plain birth before p && awaiting birth before p)
+empties birth before e p = ends e p && empty_at_end birth before p

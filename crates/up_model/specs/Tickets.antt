@@ -1,6 +1,5 @@
 -- The tickets of accesses that wait: who holds them, what became of them, and whom a call wakes.
 use Rattle.std.specs.Prelude.{ℕ, ◌+◌, ◌==◌, ◌&&◌, ◌||◌, not, Bool, true, false, cond, Option, Some, None, option_map, List, [], ◌∷◌, zero, suc}
-use Rattle.up_num.specs.declared.answers.AskKind.{AskKind}
 use Rattle.up_num.specs.declared.answers.Outcome.{Outcome}
 use Rattle.up_num.specs.declared.answers.Outcome.TheVariants.{Waiting}
 pub use Rattle.up_num.specs.Asks.{then_outcome, resolved_for}

@@ -1,6 +1,6 @@
 //! Laws over all legal journals: where bytes are, what is evicted, and why an access is refused. Each is a function with an
 //! empty body, whose clauses are the law.
-ghost use Rattle.up_model.specs.Causes.{BytesStandInPages, PagesLieWithin, EvictsClean, EvictsUnpinned, EvictsUnprotected, EvictsNoZeros, EvictsUnasked, RangeHasCause, DetachedHasCause, PagerHasCause, NoFramesHasCause};
+ghost use Rattle.up_model.specs.Causes.{BytesStandInPages, PagesLieWithin, EvictsClean, EvictsUnpinned, EvictsUnprotected, EvictsNoZeros, EvictsUnasked, EvictsUnawaited, RangeHasCause, DetachedHasCause, PagerHasCause, NoFramesHasCause};
 
 /// A byte has a value exactly where its page is there, and such a page lies within the object.
 pub fn a_byte_stands_in_a_page()
@@ -16,6 +16,7 @@ pub fn what_is_evicted_was_loose()
     ensures unprotected { EvictsUnprotected }
     ensures no_zeros { EvictsNoZeros }
     ensures unasked { EvictsUnasked }
+    ensures unawaited { EvictsUnawaited }
 {}
 
 /// A refused access has its cause in the journal. One refused for its range doesn't fit, or its page was cut off while it

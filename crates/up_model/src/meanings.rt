@@ -1,5 +1,5 @@
 //! Laws on what the recursions of the definitions mean. Each is a function with an empty body, whose clauses are the law.
-ghost use Rattle.up_model.specs.Meanings.{ReadsAreWhole, ReadsAreValues, SizeIsTheLast, NewestIsTheLast, TicketsAreCounted, WokenIsComplete, WokenRises, EmptyingTakesBytes, EmptyingFrees};
+ghost use Rattle.up_model.specs.Meanings.{ReadsAreWhole, ReadsAreValues, SizeIsTheLast, NewestIsTheLast, TicketsAreCounted, WaitersAreAsked, WokenIsComplete, WokenRises, EmptyingTakesBytes, EmptyingFrees};
 ghost use Rattle.up_model.specs.Lasts.{LastSaidIsLast};
 
 /// What the last entry says that says something stands at one position, and nothing is said after it.
@@ -26,6 +26,11 @@ pub fn the_newest_byte_is_the_last()
 /// The access that is blocked as the n-th, counted from 0, gets the ticket n.
 pub fn tickets_are_counted()
     ensures { TicketsAreCounted }
+{}
+
+/// The page of an access that waits is asked for, until something becomes of its ticket.
+pub fn who_waits_has_asked()
+    ensures { WaitersAreAsked }
 {}
 
 /// The woken list has exactly the tickets that the call wakes, and rises.

@@ -1,3 +1,4 @@
+use Rattle.up_model.proofs.WaitersAsked.{evicts_unawaited}
 use Rattle.up_model.proofs.Reclaiming.{evicts_clean, evicts_unpinned, evicts_unprotected, evicts_no_zeros, evicts_unasked}
 use Rattle.up_model.proofs.causes.what_is_evicted_was_loose.Goals as goal
 
@@ -15,3 +16,6 @@ returns-clause-no_zeros c = evicts_no_zeros
 
 pub returns-clause-unasked : goal.returns-clause-unasked
 returns-clause-unasked c = evicts_unasked
+
+pub returns-clause-unawaited : goal.returns-clause-unawaited
+returns-clause-unawaited c = evicts_unawaited
