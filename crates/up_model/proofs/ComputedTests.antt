@@ -1,6 +1,6 @@
 -- The tests of an entry, computed for each kind of call: of all these entries, which all speak of page 0 and were accepted, the
--- tests hold of exactly the ones that are listed, and of none where they weren't accepted.
-use Rattle.std.specs.Prelude.{◌≡◌, not, true, false, Some, List, [], ◌∷◌, map, refl}
+-- tests hold of exactly the ones that are listed, and of none that was refused, needs frames, is blocked or waits.
+use Rattle.std.specs.Prelude.{◌≡◌, not, true, false, Some, List, [], ◌∷◌, map, refl, ◌++◌}
 use Rattle.std.specs.List.{filter}
 use Rattle.up_num.specs.declared.answers.AskKind.TheVariants.{Read as ReadAsk, Dirty as DirtyAsk}
 use Rattle.up_num.specs.declared.answers.Code.TheVariants.{Io}
@@ -19,6 +19,7 @@ use Rattle.up_model.specs.declared.entry.HintKind.TheVariants.{Always, Cold}
 use Rattle.up_model.specs.declared.entry.Role.TheVariants.{User, Pager}
 use Rattle.up_model.specs.declared.entry.Told.TheVariants.{Flushed}
 use Rattle.up_model.specs.declared.entry.Call.TheVariants as calls
+use Rattle.up_model.specs.declared.entry.Reply.{Reply}
 use Rattle.up_model.specs.declared.entry.Reply.TheVariants as answer
 use Rattle.up_model.proofs.JournalWords.{page, range, born, by, read_at, write_at, supply}
 
@@ -130,12 +131,14 @@ of_each_kind =
     an_always ∷ a_cold ∷ a_pin ∷ an_unpin ∷ an_evict ∷ a_borrow ∷ a_vacate ∷ a_cut ∷ a_zero ∷ a_detach ∷ a_packet ∷
     the_first_user_leaves ∷ the_pager_leaves ∷ a_word ∷ []
 
--- the same calls, refused
-abbrev refused : Entry → Entry
-refused e = by e.who e.epoch e.call (answer.Refused refusal.Range)
+-- the same calls, with the replies that aren't accepted
+abbrev answered : Reply → Entry → Entry
+answered reply e = by e.who e.epoch e.call reply
 
-abbrev refused_each : List Entry
-refused_each = map refused of_each_kind
+abbrev unaccepted_each : List Entry
+unaccepted_each =
+    map (answered (answer.Refused refusal.Range)) of_each_kind ++ map (answered (answer.Needs 1)) of_each_kind
+    ++ map (answered (answer.Blocked 0)) of_each_kind ++ map (answered answer.Waiting) of_each_kind
 
 -- a resize to 4 pages is a growth of page 1
 abbrev a_growth : Entry
@@ -158,10 +161,10 @@ dirties-growth = refl
 dirties-grown_beside : dirties growing nothing_there a_growth 0 ≡ false
 dirties-grown_beside = refl
 
-dirties-refused : filter (λ e. dirties growing nothing_there e 0) refused_each ≡ []
-dirties-refused = refl
+dirties-unaccepted : filter (λ e. dirties growing nothing_there e 0) unaccepted_each ≡ []
+dirties-unaccepted = refl
 
-dirties-refused_growth : dirties growing nothing_there (refused a_growth) 1 ≡ false
+dirties-refused_growth : dirties growing nothing_there (answered (answer.Refused refusal.Range) a_growth) 1 ≡ false
 dirties-refused_growth = refl
 
 -- which begins count: one for zero pages only where the page is one
@@ -173,9 +176,9 @@ counts-zero_page : filter (λ e. counts growing zeros_awaited e 0) of_each_kind 
 unfolding value
 counts-zero_page = refl
 
-counts-refused : filter (λ e. counts growing zeros_awaited e 0) refused_each ≡ []
+counts-unaccepted : filter (λ e. counts growing zeros_awaited e 0) unaccepted_each ≡ []
 unfolding value
-counts-refused = refl
+counts-unaccepted = refl
 
 -- which supplies are taken: those of a page that isn't there
 takes-of_each_kind : filter (λ e. takes growing nothing_there e 0) of_each_kind ≡ a_supply ∷ []
@@ -186,9 +189,9 @@ takes-present_page : filter (λ e. takes growing zeros_awaited e 0) of_each_kind
 unfolding value
 takes-present_page = refl
 
-takes-refused : filter (λ e. takes growing nothing_there e 0) refused_each ≡ []
+takes-unaccepted : filter (λ e. takes growing nothing_there e 0) unaccepted_each ≡ []
 unfolding value
-takes-refused = refl
+takes-unaccepted = refl
 
 -- what uses a page
 uses-of_each_kind : filter (λ e. uses growing nothing_there e 0) of_each_kind ≡ a_read ∷ a_write ∷ a_retried_read ∷ a_retried_write ∷ a_supply ∷ a_pin ∷ []
@@ -199,18 +202,18 @@ uses-present_page : filter (λ e. uses growing zeros_awaited e 0) of_each_kind �
 unfolding value
 uses-present_page = refl
 
-uses-refused : filter (λ e. uses growing nothing_there e 0) refused_each ≡ []
+uses-unaccepted : filter (λ e. uses growing nothing_there e 0) unaccepted_each ≡ []
 unfolding value
-uses-refused = refl
+uses-unaccepted = refl
 
 -- what resolves those who wait for a page to be read
 resolved-read : filter (λ e. not (is_waiting (resolved growing nothing_there e ReadAsk 0))) of_each_kind ≡ a_supply ∷ a_fail ∷ a_cut ∷ a_zero ∷ a_detach ∷ the_pager_leaves ∷ []
 unfolding value
 resolved-read = refl
 
-resolved-read_refused : filter (λ e. not (is_waiting (resolved growing nothing_there e ReadAsk 0))) refused_each ≡ []
+resolved-read_unaccepted : filter (λ e. not (is_waiting (resolved growing nothing_there e ReadAsk 0))) unaccepted_each ≡ []
 unfolding value
-resolved-read_refused = refl
+resolved-read_unaccepted = refl
 
 -- and those who wait to make it dirty: an end only where it empties the page
 resolved-dirty : filter (λ e. not (is_waiting (resolved growing nothing_there e DirtyAsk 0))) of_each_kind ≡ a_fail ∷ a_dirty ∷ a_cut ∷ a_zero ∷ a_detach ∷ the_pager_leaves ∷ []
@@ -221,9 +224,9 @@ resolved-dirty_emptied : filter (λ e. not (is_waiting (resolved growing zeros_a
 unfolding value
 resolved-dirty_emptied = refl
 
-resolved-dirty_refused : filter (λ e. not (is_waiting (resolved growing zeros_awaited e DirtyAsk 0))) refused_each ≡ []
+resolved-dirty_unaccepted : filter (λ e. not (is_waiting (resolved growing zeros_awaited e DirtyAsk 0))) unaccepted_each ≡ []
 unfolding value
-resolved-dirty_refused = refl
+resolved-dirty_unaccepted = refl
 
 -- what empties a page, what takes it away, what makes zeros of it
 empties-of_each_kind : filter (λ e. empties growing zeros_awaited e 0) of_each_kind ≡ an_end ∷ []
@@ -239,3 +242,19 @@ drops-of_each_kind = refl
 
 blanks-of_each_kind : filter (λ e. blanks growing nothing_there e 0) of_each_kind ≡ a_zero ∷ []
 blanks-of_each_kind = refl
+
+writes-unaccepted : filter (λ e. writes nothing_there e 0) unaccepted_each ≡ []
+writes-unaccepted = refl
+
+reads-unaccepted : filter (λ e. reads nothing_there e 0) unaccepted_each ≡ []
+reads-unaccepted = refl
+
+empties-unaccepted : filter (λ e. empties growing zeros_awaited e 0) unaccepted_each ≡ []
+unfolding value
+empties-unaccepted = refl
+
+drops-unaccepted : filter (λ e. drops growing nothing_there e 0) unaccepted_each ≡ []
+drops-unaccepted = refl
+
+blanks-unaccepted : filter (λ e. blanks growing nothing_there e 0) unaccepted_each ≡ []
+blanks-unaccepted = refl

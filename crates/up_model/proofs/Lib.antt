@@ -26,6 +26,7 @@ mod ComputedAsks
 mod ComputedOrder
 mod ComputedReplies
 mod ComputedTests
+mod ComputedChoices
 mod RowsSurvival
 pub mod Fates
 pub mod Refusing
