@@ -37,7 +37,7 @@ none_before from (r ∷ rs) q a h =
     let rest : holds rs q ≡ false = none_before (r.first + r.count + 1) rs q a.1.1 later in
     rw rest (grind (arith, nat_tests))
 
-holds_closed : (p c : ℕ) (rs : List Run) (q : ℕ) → holds (closed p c ++ rs) q ≡ (within (p - c) c q || holds rs q)
+pub holds_closed : (p c : ℕ) (rs : List Run) (q : ℕ) → holds (closed p c ++ rs) q ≡ (within (p - c) c q || holds rs q)
 holds_closed p zero rs q = let none : within (p - 0) 0 q ≡ false = grind (arith, nat_tests) in rw none refl
 holds_closed p (suc c) rs q = refl
 
