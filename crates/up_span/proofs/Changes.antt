@@ -222,10 +222,10 @@ put_ends xs low high from to from' to' s within' fits fits' =
     let cap : end_of 0 xs ≤ 2 ^ 32 = s.1 in
     let front : end_of 0 (take low xs) ≤ 2 ^ 32 = omega arith in
     let all : end_of 0 (put_in xs low high from to from' to') ≡ end_of (end_of 0 (take low xs)) (closed to (to - from) ++ (closed to' (to' - from') ++ drop high xs))
-        = end_append 0 (take low xs) _ in
+    = end_append 0 (take low xs) _ in
     let rest : end_of (end_of 0 (take low xs)) (closed to (to - from) ++ (closed to' (to' - from') ++ drop high xs)) ≤ 2 ^ 32
-        = closed_cap (end_of 0 (take low xs)) to (to - from) (2 ^ 32) (closed to' (to' - from') ++ drop high xs) (omega arith) (omega arith) front
-        (λ n h. closed_cap n to' (to' - from') (2 ^ 32) (drop high xs) (omega arith) (omega arith) h (λ m g. rest_cap xs high m s g)) in
+    = closed_cap (end_of 0 (take low xs)) to (to - from) (2 ^ 32) (closed to' (to' - from') ++ drop high xs) (omega arith) (omega arith) front
+    (λ n h. closed_cap n to' (to' - from') (2 ^ 32) (drop high xs) (omega arith) (omega arith) h (λ m g. rest_cap xs high m s g)) in
     omega arith
 
 -- the set with a range added
@@ -240,19 +240,20 @@ added xs low high first count end start stop is some r ys same =
     let none : end - end ≡ 0 = omega arith in
     let width : stop - (stop - start) ≡ start = omega arith in
     let least : end_of 0 (take low xs) ≤ start = ⊎_elim
-        (λ h. start_low xs low first start (slice_get xs low) refl r.spans.0 r.starts h) (λ h. omega arith) (cases_lt start first) in
+    (λ h. start_low xs low first start (slice_get xs low) refl r.spans.0 r.starts h) (λ h. omega arith) (cases_lt start first) in
     let rest : Apart (stop + 1) (drop high xs) = ⊎_elim
-        (λ h. stop_high xs high end stop r.spans.0 r.high_within r.stops h)
-        (λ h. apart_lower (stop + 1) (end + 1 - 0) (drop high xs) (omega arith) r.after) (cases_lt end stop) in
+    (λ h. stop_high xs high end stop r.spans.0 r.high_within r.stops h)
+    (λ h. apart_lower (stop + 1) (end + 1 - 0) (drop high xs) (omega arith) r.after) (cases_lt end stop) in
     let list : put_in xs low high start stop end end ≡ take low xs ++ (closed stop (stop - start) ++ drop high xs)
-        = ap (λ n. take low xs ++ (closed stop (stop - start) ++ (closed end n ++ drop high xs))) none in
+    = ap (λ n. take low xs ++ (closed stop (stop - start) ++ (closed end n ++ drop high xs))) none in
     let apart : Apart 0 (take low xs ++ (closed stop (stop - start) ++ drop high xs)) = apart_join 0 (take low xs) (closed stop (stop - start) ++ drop high xs)
-        (apart_take xs low r.spans.0) (closed_apart (end_of 0 (take low xs)) stop (stop - start) (drop high xs) (omega arith) (λ h. omega arith) (λ h. rest) (λ h. absurd (omega arith))) in
-    subst (λ zs. AreSpans zs × ((q : ℕ) → holds zs q ≡ (holds xs q || within first count q))) (sym same)
-    ((subst (λ zs. Apart 0 zs) (sym list) apart, put_ends xs low high start stop end end r.spans r.low_within fits r.below),
-    λ q. let nothing : within (end - (end - end)) (end - end) q ≡ false = grind (arith, nat_tests) in
-    put_holds xs low high start stop end end q
-    ∙ rw (nothing, width) (added_by (holds xs q) (holds (take low xs) q) (holds (drop high xs) q) first count end start stop q is (parted xs low high first end start stop 0 q r)))
+    (apart_take xs low r.spans.0) (closed_apart (end_of 0 (take low xs)) stop (stop - start) (drop high xs) (omega arith) (λ h. omega arith) (λ h. rest) (λ h. absurd (omega arith))) in
+    subst (λ zs. AreSpans zs × ((q : ℕ) → holds zs q ≡ (holds xs q || within first count q))) (sym same) (
+      (subst (λ zs. Apart 0 zs) (sym list) apart, put_ends xs low high start stop end end r.spans r.low_within fits r.below),
+      λ q. let nothing : within (end - (end - end)) (end - end) q ≡ false = grind (arith, nat_tests) in
+          put_holds xs low high start stop end end q
+          ∙ rw (nothing, width) (added_by (holds xs q) (holds (take low xs) q) (holds (drop high xs) q) first count end start stop q is (parted xs low high first end start stop 0 q r)),
+    )
 
 -- the set with a range taken out
 removed : (xs : List Run) (low high first count end start stop : ℕ) → end ≡ first + count → 0 < count → Around xs low high first end start stop 1 → (ys : List Run) →
@@ -264,17 +265,18 @@ removed xs low high first count end start stop is some r ys same =
     let below : end < 2 ^ 32 = r.below in
     let fits : stop < 2 ^ 32 = stop_fits xs high end stop r.spans r.high_within r.stops r.below in
     let right : (from : ℕ) → from ≤ end → Apart from (closed stop (stop - end) ++ drop high xs) = λ from h.
-        closed_apart from stop (stop - end) (drop high xs) (omega arith) (λ g. omega arith)
-        (λ g. stop_high xs high end stop r.spans.0 r.high_within r.stops (omega arith))
-        (λ g. apart_lower from (end + 1 - 1) (drop high xs) (omega arith) r.after) in
+    closed_apart from stop (stop - end) (drop high xs) (omega arith) (λ g. omega arith)
+    (λ g. stop_high xs high end stop r.spans.0 r.high_within r.stops (omega arith))
+    (λ g. apart_lower from (end + 1 - 1) (drop high xs) (omega arith) r.after) in
     let apart : Apart 0 (put_in xs low high start first end stop) = apart_join 0 (take low xs) (closed first (first - start) ++ (closed stop (stop - end) ++ drop high xs))
-        (apart_take xs low r.spans.0) (closed_apart (end_of 0 (take low xs)) first (first - start) (closed stop (stop - end) ++ drop high xs) (omega arith)
-        (λ g. let least : end_of 0 (take low xs) ≤ start = start_low xs low first start (slice_get xs low) refl r.spans.0 r.starts (omega arith) in omega arith)
-        (λ g. right (first + 1) (omega arith)) (λ g. right (end_of 0 (take low xs)) (omega arith))) in
-    subst (λ zs. AreSpans zs × ((q : ℕ) → holds zs q ≡ (holds xs q && not (within first count q)))) (sym same)
-    ((apart, put_ends xs low high start first end stop r.spans r.low_within (omega arith) fits),
-    λ q. put_holds xs low high start first end stop q
-    ∙ removed_by (holds xs q) (holds (take low xs) q) (holds (drop high xs) q) first count end start stop q is (parted xs low high first end start stop 1 q r))
+    (apart_take xs low r.spans.0) (closed_apart (end_of 0 (take low xs)) first (first - start) (closed stop (stop - end) ++ drop high xs) (omega arith)
+    (λ g. let least : end_of 0 (take low xs) ≤ start = start_low xs low first start (slice_get xs low) refl r.spans.0 r.starts (omega arith) in omega arith)
+    (λ g. right (first + 1) (omega arith)) (λ g. right (end_of 0 (take low xs)) (omega arith))) in
+    subst (λ zs. AreSpans zs × ((q : ℕ) → holds zs q ≡ (holds xs q && not (within first count q)))) (sym same) (
+      (apart, put_ends xs low high start first end stop r.spans r.low_within (omega arith) fits),
+      λ q. put_holds xs low high start first end stop q
+          ∙ removed_by (holds xs q) (holds (take low xs) q) (holds (drop high xs) q) first count end start stop q is (parted xs low high first end start stop 1 q r),
+    )
 
 -- the same, from what the searches say
 pub add_list : (xs ys : List Run) (low high first count start stop : ℕ) → AreSpans xs → 0 < count → first + count < 2 ^ 32 →

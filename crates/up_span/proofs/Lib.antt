@@ -4,3 +4,4 @@ pub mod Apart
 pub mod OfKind
 pub mod Places
 pub mod Changes
+pub mod Outside

@@ -108,7 +108,7 @@ in_order xs low high first last a within' ended later order = ⊎_elim
     let here : end_of 0 (take (high + 1) xs) ≡ run.first + run.count + 1 = end_take xs high run is in
     let part : take (high + 1) (take low xs) ≡ take (high + 1) xs = take-take (high + 1) low xs (omega arith) in
     let grows : end_of 0 (take (high + 1) (take low xs)) ≤ end_of (end_of 0 (take (high + 1) (take low xs))) (drop (high + 1) (take low xs))
-        = end_grows _ (drop (high + 1) (take low xs)) (apart_drop (take low xs) (high + 1) (apart_take xs low a)) in
+    = end_grows _ (drop (high + 1) (take low xs)) (apart_drop (take low xs) (high + 1) (apart_take xs low a)) in
     let all : end_of (end_of 0 (take (high + 1) (take low xs))) (drop (high + 1) (take low xs)) ≡ end_of 0 (take low xs) = end_split (take low xs) (high + 1) in
     let same : end_of 0 (take (high + 1) (take low xs)) ≡ end_of 0 (take (high + 1) xs) = ap (λ ys. end_of 0 ys) part in
     omega arith))
@@ -138,9 +138,15 @@ pub first_is_least : (xs : List Run) (run : Run) → Apart 0 xs → slice_get xs
 first_is_least xs run a h =
     let whole : Apart 0 (run ∷ drop 1 xs) = apart_at xs 0 run a h in
     let list : xs ≡ run ∷ drop 1 xs = split_get xs 0 run h in
-    subst (λ ys. IsFirstRun (holds ys) run) (sym list)
-    (whole.1.0, (λ q early. none_before run.first (run ∷ drop 1 xs) q (omega arith, whole.1) early,
-    (λ q inside. rw inside refl,
-    (let past : within run.first run.count (run.first + run.count) ≡ false = grind (arith, nat_tests) in
-    let rest : holds (drop 1 xs) (run.first + run.count) ≡ false = none_before (run.first + run.count + 1) (drop 1 xs) (run.first + run.count) whole.1.1 (omega arith) in
-    rw (past, rest) refl))))
+    subst (λ ys. IsFirstRun (holds ys) run) (sym list) (
+      whole.1.0,
+      (
+        λ q early. none_before run.first (run ∷ drop 1 xs) q (omega arith, whole.1) early,
+        (
+          λ q inside. rw inside refl,
+          (let past : within run.first run.count (run.first + run.count) ≡ false = grind (arith, nat_tests) in
+              let rest : holds (drop 1 xs) (run.first + run.count) ≡ false = none_before (run.first + run.count + 1) (drop 1 xs) (run.first + run.count) whole.1.1 (omega arith) in
+              rw (past, rest) refl),
+        ),
+      ),
+    )

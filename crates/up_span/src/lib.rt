@@ -1,12 +1,15 @@
 //! Sets of pages as runs: the set type, and what is said of pages and runs of a range.
 #![tactic(auto)]
 
+mod gaps;
 pub mod laws;
 mod run;
 mod runs;
 mod search;
 mod spans;
 mod stretch;
+#[cfg(test)]
+mod tests;
 
 pub use run::{KindRun, Run};
 pub use runs::Runs;

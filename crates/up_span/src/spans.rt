@@ -4,10 +4,11 @@ ghost use Rattle.up_span.specs.Runs.{runs as maximal_runs};
 ghost use Rattle.up_span.specs.Sets.{holds, Apart, IsFirstRun};
 
 use crate::Memory;
+use crate::gaps::gaps_of;
 use crate::run::Run;
 use crate::runs::Runs;
 use crate::search::{apart_from, begun_by, ended_by, run_at, start_at, stop_before};
-use crate::stretch::{Stretch, push_stretch, put_between};
+use crate::stretch::{Stretch, put_between};
 use std::alloc::Global;
 use std::marker::Model;
 
@@ -100,26 +101,7 @@ impl Spans {
         requires { first + count < 2 ^ 32 }
         ensures { IfOk result (λ outside. outside ≡ maximal_runs (λ page. not (holds self.now page)) first 0 count) }
     {
-        let end = first + count;
-        let mut place = ended_by(&self.runs, first);
-        let mut outside = Runs::new(alloc);
-        let mut next = first;
-        while place < self.runs.len() && run_at(&self.runs, place).first < end {
-            let run = run_at(&self.runs, place);
-            let gap = Stretch {
-                from: next,
-                to: run.first,
-            };
-            push_stretch(&mut outside, gap)?;
-            next = run.first + run.count;
-            place += 1;
-        }
-        let rest = Stretch {
-            from: next,
-            to: end,
-        };
-        push_stretch(&mut outside, rest)?;
-        Ok(outside)
+        gaps_of(alloc, &self.runs, first, count)
     }
 
     /// The least maximal run of the set.

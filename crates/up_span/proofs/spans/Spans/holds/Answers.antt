@@ -13,6 +13,6 @@ pub returns-else-place-len : goal.returns-else-place-len
 returns-else-place-len c =
     let past : length c.self.inside.runs.items ≤ c.ended_by-place.result = omega arith in
     let none : holds c.self.inside.runs.items c.args.page ≡ false = held_none c.self.inside.runs.items c.ended_by-place.result c.args.page c.self.invariant.0
-        c.ended_by-place.ensures.before past in
+    c.ended_by-place.ensures.before past in
     let test : ltb c.ended_by-place.result c.len.result ≡ false = grind (arith, nat_tests) in
     test ∙ sym none ∙ ap (λ xs. holds xs c.args.page) c.self.view_is
