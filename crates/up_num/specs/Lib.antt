@@ -1,3 +1,4 @@
 pub mod Span
 pub mod Pages
 pub mod Asks
+pub mod Pieces

@@ -5,12 +5,14 @@
 mod answers;
 mod items;
 mod pages;
+mod pieces;
 #[cfg(test)]
 mod tests;
 
 pub use answers::{AskKind, Code, Outcome, Packet, PageState, Refusal};
 pub use items::{Bytes, Items, PageSeq, RangeSeq, Woken};
 pub use pages::{DirtyRange, PageNo, PageRange, Piece};
+pub use pieces::{Pieces, pieces_join, pieces_of};
 
 /// Want of memory: the one answer that every call which allocates may give.
 pub type Memory = std::alloc::AllocError;

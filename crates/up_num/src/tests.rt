@@ -1,4 +1,4 @@
-use crate::{Bytes, Items, PageNo, PageSeq};
+use crate::{Bytes, Items, PageNo, PageSeq, Piece, pieces_of};
 use std::test::Fail;
 
 #[test]
@@ -22,5 +22,28 @@ fn copies_have_the_same_items(rt: HostRuntime) -> Result<(), Fail> {
     assert!(rt; copy.as_slice() == b"page".as_slice());
     let moved = Items::from_vec(b"held".to_vec(rt.alloc())?);
     assert!(rt; moved.as_slice() == b"held".as_slice());
+    Ok(())
+}
+
+#[test]
+fn an_access_is_cut_where_its_pages_end(rt: HostRuntime) -> Result<(), Fail> {
+    let mut pieces = pieces_of(4000, 5000);
+    assert_eq!(rt; pieces.next(), Some(Piece { off: 4000, len: 96 }));
+    assert_eq!(rt;
+        pieces.next(),
+        Some(Piece {
+            off: 4096,
+            len: 4096
+        })
+    );
+    assert_eq!(rt;
+        pieces.next(),
+        Some(Piece {
+            off: 8192,
+            len: 808
+        })
+    );
+    assert_eq!(rt; pieces.next(), None);
+    assert_eq!(rt; pieces_of(4096, 0).next(), None);
     Ok(())
 }

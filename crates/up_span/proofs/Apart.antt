@@ -37,9 +37,17 @@ none_before from (r ∷ rs) q a h =
     let rest : holds rs q ≡ false = none_before (r.first + r.count + 1) rs q a.1.1 later in
     rw rest (grind (arith, nat_tests))
 
-holds_closed : (p c : ℕ) (rs : List Run) (q : ℕ) → holds (closed p c ++ rs) q ≡ (within (p - c) c q || holds rs q)
+pub holds_closed : (p c : ℕ) (rs : List Run) (q : ℕ) → holds (closed p c ++ rs) q ≡ (within (p - c) c q || holds rs q)
 holds_closed p zero rs q = let none : within (p - 0) 0 q ≡ false = grind (arith, nat_tests) in rw none refl
 holds_closed p (suc c) rs q = refl
+
+pub hold_closed : (p c q : ℕ) → holds (closed p c) q ≡ within (p - c) c q
+hold_closed p zero q = let none : within (p - 0) 0 q ≡ false = grind (arith, nat_tests) in rw none refl
+hold_closed p (suc c) q = or_none (within (p - suc c) (suc c) q)
+  where
+    or_none : (b : Bool) → (b || false) ≡ b
+    or_none true = refl
+    or_none false = refl
 
 hold_end : (p c q : ℕ) (t : Bool) → holds (closed p c) q ≡ (within (p - c) c q || (within p 0 q && t))
 hold_end p zero q t = let before : within (p - 0) 0 q ≡ false = grind (arith, nat_tests) in let none : within p 0 q ≡ false = grind (arith, nat_tests) in rw (before, none) refl

@@ -2,3 +2,6 @@ mod Computed
 pub mod Ranges
 pub mod Apart
 pub mod OfKind
+pub mod Places
+pub mod Changes
+pub mod Outside

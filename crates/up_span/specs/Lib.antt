@@ -2,3 +2,4 @@ pub mod Pages
 pub mod Runs
 pub mod Sets
 pub mod Laws
+pub mod Parts

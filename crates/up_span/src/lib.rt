@@ -1,7 +1,19 @@
-//! Ranges of pages: the pages of a range that pass a test, and its maximal runs.
+//! Sets of pages as runs: the set type, and what is said of pages and runs of a range.
 #![tactic(auto)]
 
+mod gaps;
 pub mod laws;
 mod run;
+mod runs;
+mod search;
+mod spans;
+mod stretch;
+#[cfg(test)]
+mod tests;
 
 pub use run::{KindRun, Run};
+pub use runs::Runs;
+pub use spans::Spans;
+
+/// Want of memory: the one answer that every call which allocates may give.
+pub type Memory = std::alloc::AllocError;
