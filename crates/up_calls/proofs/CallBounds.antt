@@ -22,7 +22,7 @@ use Rattle.up_calls.specs.declared.kinds.CallKind.{CallKind}
 use Rattle.up_calls.specs.declared.kinds.CallKind.TheVariants as kinds
 use Rattle.up_fields.proofs.Values.{bind_ok, found_ok}
 use Rattle.up_fields.proofs.Bounds.{number_within, page_within, range_within, bytes_within}
-use Rattle.up_calls.proofs.Frames.{frames_within}
+use Rattle.up_calls.proofs.FrameForms.{frames_within}
 
 -- a call that was read has a text, and so many bytes
 pub record CallWithin (spelled : SpelledCall) : Type 0 where

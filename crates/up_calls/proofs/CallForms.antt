@@ -29,7 +29,7 @@ use Rattle.up_calls.specs.declared.calls.SpelledCall.{SpelledCall}
 use Rattle.up_calls.specs.declared.kinds.CallKind.{CallKind}
 use Rattle.up_calls.specs.declared.kinds.CallKind.TheVariants as kinds
 use Rattle.up_fields.proofs.Values.{either, bind_ok, found_ok, same_word, number_again, number_takes, lies_word, page_again, page_takes, range_again, range_takes, flag_again, flag_takes, flag_word, code_again, code_takes, code_word}
-use Rattle.up_calls.proofs.Frames.{frames_shown, frames_again, frames_takes, frames_word}
+use Rattle.up_calls.proofs.FrameForms.{frames_shown, frames_again, frames_takes, frames_word}
 use Rattle.up_fields.proofs.Rows.{one, two, three, four, five, front_one, front_two, front_three, front_four, front_five, first_word, count_word, bytes_word, bytes_fit}
 
 -- the kind of a call

@@ -1,3 +1,3 @@
-pub mod Frames
+pub mod FrameForms
 pub mod CallForms
 pub mod CallBounds
