@@ -17,3 +17,6 @@ pub use put::{
     put_range, put_ranges, put_with_flag, put_with_number, put_with_range, put_word,
 };
 pub use tail::Tail;
+
+#[cfg(test)]
+mod tests;
