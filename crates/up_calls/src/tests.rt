@@ -46,7 +46,7 @@ fn written_again(alloc: Global, line: &[u8]) -> Result<Vec<u8>, Stop> {
     let spelled = read_call(alloc, kind, &deed)?;
     let call = fill_call(alloc, spelled)?;
     let mut out = Vec::new(alloc);
-    out.push(b'0')?;
+    out.extend_from_slice(b"0")?;
     put_call(&mut out, &call)?;
     Ok(out)
 }

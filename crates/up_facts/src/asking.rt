@@ -39,12 +39,14 @@ impl Model for Ask {
     ghost inverse = { λ ask. record { kind = ask.kind; first = ask.first; count = ask.count } };
 }
 
+/// The reply parks an access.
 pub fn is_blocked(reply: &Reply) -> bool
     ensures { result ≡ attempting.is_blocked reply.now }
 {
     matches!(reply, Reply::Blocked(_))
 }
 
+/// Nothing was resolved.
 pub fn is_waiting(outcome: Outcome) -> bool
     ensures { result ≡ asking.is_waiting outcome }
 {
@@ -71,8 +73,8 @@ fn lacks(birth: &Birth, before: &[Entry], kind: AskKind, page: u64) -> bool
     }
 }
 
-#[tactic(auto, using(crate::proofs::Places::run_step, crate::proofs::Places::run_none))]
 /// How many of these pages, from the first on, lack what the kind asks for.
+#[tactic(auto, using(crate::proofs::Places::run_step, crate::proofs::Places::run_none))]
 fn lacking_run(birth: &Birth, before: &[Entry], kind: AskKind, first: u64, count: u64) -> u64
     requires { first + count < 2 ^ 52 }
     ensures same { result ≡ runs.run_of (asking.lacks birth.now (reverse before.now) kind) first count }
@@ -155,13 +157,7 @@ fn where_so(test: bool, outcome: Outcome) -> Outcome
 }
 
 /// What an accepted call makes of those who wait for a page with a kind.
-pub fn resolves(
-    birth: &Birth,
-    before: &[Entry],
-    call: &Call,
-    kind: AskKind,
-    page: u64,
-) -> Outcome
+pub fn resolves(birth: &Birth, before: &[Entry], call: &Call, kind: AskKind, page: u64) -> Outcome
     requires { page < 2 ^ 52 }
     ensures { result ≡ asking.resolves birth.now (reverse before.now) call.now kind page }
 {
@@ -210,13 +206,7 @@ fn lets_dirty(birth: &Birth, before: &[Entry], call: &Call, page: u64) -> bool
 }
 
 /// What an entry makes of those who wait for a page with a kind.
-pub fn resolved(
-    birth: &Birth,
-    before: &[Entry],
-    entry: &Entry,
-    kind: AskKind,
-    page: u64,
-) -> Outcome
+pub fn resolved(birth: &Birth, before: &[Entry], entry: &Entry, kind: AskKind, page: u64) -> Outcome
     requires { page < 2 ^ 52 }
     ensures { result ≡ asking.resolved birth.now (reverse before.now) entry.now kind page }
 {

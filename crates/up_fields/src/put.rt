@@ -5,6 +5,7 @@ ghost use Rattle.up_fields.specs.Text.{code_text, flag_text, list_text, more_tex
 use itoa::Buffer;
 use up_num::{Code, DirtyRange, Memory, PageNo, PageRange};
 
+/// A number, with nothing before it.
 pub fn put_number(out: &mut Vec<u8>, number: u64) -> Result<(), Memory>
     ensures { OnOk result (out.new.items ≡ out.old.items ++ decimal number) }
 {

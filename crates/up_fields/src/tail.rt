@@ -20,6 +20,7 @@ impl<'w, 'a> Model for Tail<'w, 'a> {
 }
 
 impl<'w, 'a> Tail<'w, 'a> {
+    /// The words from this one on, counted from 0; none past the end.
     pub fn new(words: &'w Words<'a>, from: u32) -> Self
         ensures { result ≡ drop from words.now }
     {
@@ -40,6 +41,7 @@ impl<'w, 'a> Tail<'w, 'a> {
         self.at(place) == text
     }
 
+    /// How many words these are.
     pub fn len(&self) -> usize
         ensures { result ≡ length self.now }
     {

@@ -55,7 +55,7 @@ fn written_again(alloc: Global, line: &[u8]) -> Result<Vec<u8>, Stop> {
     let spelled = read_reply(alloc, kind, &answer)?;
     let reply = fill_reply(alloc, spelled)?;
     let mut out = Vec::new(alloc);
-    out.push(b'0')?;
+    out.extend_from_slice(b"0")?;
     put_reply(&mut out, &reply)?;
     Ok(out)
 }

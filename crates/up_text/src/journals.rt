@@ -1,4 +1,3 @@
-
 use up_model::{Birth, Entries};
 use up_num::{Bytes, Items};
 

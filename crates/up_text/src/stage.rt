@@ -1,4 +1,3 @@
-
 use crate::journals::{Journals, Named};
 
 /// The journals read so far, and how many bytes their byte lists spell, those of an open journal too.

@@ -5,7 +5,8 @@ use up_model::{Birth, Brought, Call, Entry, Reply};
 use up_num::{Packet, PageNo, PageRange, Piece};
 use up_words::ReadFault;
 
-const TEXT: &[u8] = b"pagerd-journal 1\njournal a 1 - free 2 1 -\n0 0 0 read 0 1 0 - -> blocked 0\n1 2 0 packet -> packet read 0 1\n2 2 0 supply 0 1 61*4096 f1 -> took 1 woke 0\n3 0 0 retry 0 - -> bytes 61*1\nend 4\njournal b 0 0 trap 1 1 image\nend 0\ndone\n";
+const TEXT: &[u8] =
+    b"pagerd-journal 1\njournal a 1 - free 2 1 -\n0 0 0 read 0 1 0 - -> blocked 0\n1 2 0 packet -> packet read 0 1\n2 2 0 supply 0 1 61*4096 f1 -> took 1 woke 0\n3 0 0 retry 0 - -> bytes 61*1\nend 4\njournal b 0 0 trap 1 1 image\nend 0\ndone\n";
 
 fn written_again(alloc: Global, text: &[u8]) -> Result<Vec<u8>, ReadFault> {
     let journals = read_journals(alloc, text)?;

@@ -22,7 +22,10 @@ use crate::slow::ranges::{
 };
 use crate::slow::tickets::{next_ticket, outcome, woken};
 use std::alloc::Global;
-use up_facts::{bytes_from, detached, has_page, in_role, is_dirty, is_plain, is_unclean, loaned, newest_epoch, parked, pins, size};
+use up_facts::{
+    bytes_from, detached, has_page, in_role, is_dirty, is_plain, is_unclean, loaned, newest_epoch,
+    parked, pins, size,
+};
 use up_model::{Birth, Brought, Call, Entry, Reply, Role};
 use up_num::{Items, Memory, Outcome, Packet, PageNo, PageRange, RangeSeq, Refusal};
 
