@@ -1,7 +1,8 @@
 -- The texts of the program beside the journals'.
 use Rattle.std.specs.Prelude.{ℕ, List, ◌++◌, Option, Some, None, decimal, codes}
 use Rattle.up_model.specs.declared.entry.Reply.{Reply}
-use Rattle.up_text.specs.Text.{spaced, reply_words}
+use Rattle.up_fields.specs.Text.{spaced}
+use Rattle.up_replies.specs.Text.{reply_words}
 use Rattle.up_words.specs.declared.fault.Why.{Why}
 use Rattle.up_words.specs.declared.fault.Why.TheVariants as why
 

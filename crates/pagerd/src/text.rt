@@ -8,8 +8,8 @@ use itoa::Buffer;
 use std::alloc::Global;
 use up_model::Reply;
 use up_num::Memory;
+use up_replies::put_reply;
 use up_script::Why;
-use up_text::put_reply;
 
 /// The text of a fault at a line.
 pub fn fault_at(alloc: Global, line: u32, reason: &[u8]) -> Result<Vec<u8>, Memory>

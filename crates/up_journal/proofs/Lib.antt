@@ -1,3 +1,2 @@
-pub mod Lookback
 pub mod PageRuns
 pub mod Runs

@@ -8,7 +8,7 @@ use Rattle.up_model.specs.Order.{put_in, put_in_order}
 use Rattle.up_model.specs.Reply.{dirty_run}
 use Rattle.up_journal.specs.Tested.{run_after, HasPages}
 use Rattle.up_journal.specs.declared.slow.ranges.Run.{Run}
-use Rattle.up_journal.proofs.PageRuns.{next_place, left}
+use Rattle.up_facts.proofs.Places.{next_place, left}
 
 runs_more : (test : ℕ → Bool) (p c n : ℕ) → 0 < n →
     runs test p c n ≡ cond (test p) (runs test (p + 1) (c + 1) (n - 1)) (closed p c ++ runs test (p + 1) 0 (n - 1))

@@ -1,22 +1,14 @@
 //! The definitions as a plain program: each is computed from the entries alone, by looking back over them. `before` are the
 //! entries so far, oldest first.
 mod answers;
-mod asking;
-mod attempts;
-mod deeds;
-mod facts;
 mod modified;
 mod order;
 mod packets;
-mod pins;
 mod proper;
 mod ranges;
-mod roles;
-mod sizes;
 #[cfg(test)]
 mod tests;
 mod tickets;
-mod uses;
 
 ghost use Rattle.std.specs.Prelude.{◌≡◌, reverse, IfOk};
 ghost use Rattle.up_model.specs.Reply as replies;

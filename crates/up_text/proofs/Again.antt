@@ -14,18 +14,21 @@ use Rattle.up_words.specs.Words.{split, is_word}
 use Rattle.up_words.specs.Names.{is_name}
 use Rattle.up_words.specs.declared.fault.Why.{Why}
 use Rattle.up_words.proofs.Decimals.{both}
-use Rattle.up_text.specs.Limits.{all_tickets, longest_text, most_bytes, most_journals}
-use Rattle.up_text.specs.Text.{line_of, line_text, entry_words, birth_words, entries_text, end_words, journal_text, text}
+use Rattle.up_fields.specs.Limits.{all_tickets, most_bytes}
+use Rattle.up_text.specs.Limits.{longest_text, most_journals}
+use Rattle.up_fields.specs.Text.{line_of, line_text}
+use Rattle.up_text.specs.Text.{entry_words, birth_words, entries_text, end_words, journal_text, text}
 use Rattle.up_text.specs.Reading.{has_name, between_line, line_step, lines_of}
-use Rattle.up_text.specs.Allowed.{lies, entry_allowed, birth_allowed, journal_allowed, are_new, are_allowed, entry_bytes, journal_bytes}
+use Rattle.up_fields.specs.Allowed.{lies}
+use Rattle.up_text.specs.Allowed.{entry_allowed, birth_allowed, journal_allowed, are_new, are_allowed, entry_bytes, journal_bytes}
 use Rattle.up_text.specs.Laws.{ReadsItsText}
 use Rattle.up_text.specs.declared.journals.Named.{Named}
 use Rattle.up_text.specs.declared.stage.Stage.{Stage}
 use Rattle.up_text.specs.declared.stage.Stage.TheVariants as stages
 use Rattle.up_text.proofs.Lines.{lines_more, lines_last}
-use Rattle.up_text.proofs.Values.{other_first, first_digit, number_again, number_word, flag_again}
-use Rattle.up_text.proofs.Listed.{is_free}
-use Rattle.up_text.proofs.Sentences.{words_again, line_free, split_line}
+use Rattle.up_fields.proofs.Values.{other_first, first_digit, number_again, number_word, flag_again}
+use Rattle.up_fields.proofs.Listed.{is_free}
+use Rattle.up_fields.proofs.Sentences.{words_again, line_free, split_line}
 use Rattle.up_text.proofs.EntryForms.{entry_good, entry_again, birth_again, birth_good}
 
 -- the journals and the open one, after so many bytes

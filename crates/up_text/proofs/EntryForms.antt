@@ -20,21 +20,28 @@ use Rattle.up_words.specs.Runs.{too_many}
 use Rattle.up_words.specs.declared.fault.Why.{Why}
 use Rattle.up_words.specs.declared.fault.Why.TheVariants as why
 use Rattle.up_words.proofs.Decimals.{both, then_ok, ok_is}
-use Rattle.up_text.specs.Limits.{all_tickets, all_counts, all_sizes, all_actors, most_bytes}
-use Rattle.up_text.specs.Text.{limit_text, call_words, reply_words, entry_words, birth_words}
-use Rattle.up_text.specs.Fields.{flag_in}
-use Rattle.up_text.specs.Kinds.{call_size, reply_size, call_kinds, reply_kinds}
-use Rattle.up_text.specs.Calls.{call_fits, call_kind, call_in, call_of}
-use Rattle.up_text.specs.Replies.{reply_kind, list_fits, reply_in, reply_of}
+use Rattle.up_fields.specs.Limits.{all_tickets, all_counts, all_sizes, most_bytes}
+use Rattle.up_text.specs.Limits.{all_actors}
+use Rattle.up_calls.specs.Text.{call_words}
+use Rattle.up_replies.specs.Text.{reply_words}
+use Rattle.up_text.specs.Text.{limit_text, entry_words, birth_words}
+use Rattle.up_fields.specs.Fields.{flag_in}
+use Rattle.up_calls.specs.Kinds.{call_size, call_kinds}
+use Rattle.up_replies.specs.Kinds.{reply_size, reply_kinds}
+use Rattle.up_calls.specs.Calls.{call_fits, call_kind, call_in, call_of}
+use Rattle.up_replies.specs.Replies.{reply_kind, list_fits, reply_in, reply_of}
 use Rattle.up_text.specs.Reading.{forms_in, entry_in, spelled_bytes, entry_of, limit_in, birth_in}
-use Rattle.up_text.specs.Allowed.{lies, call_allowed, reply_allowed, entry_allowed, limit_allowed, birth_allowed, entry_bytes}
+use Rattle.up_fields.specs.Allowed.{lies}
+use Rattle.up_calls.specs.Allowed.{call_allowed}
+use Rattle.up_replies.specs.Allowed.{reply_allowed}
+use Rattle.up_text.specs.Allowed.{entry_allowed, limit_allowed, birth_allowed, entry_bytes}
 use Rattle.up_text.specs.declared.entries.Forms.{Forms}
 use Rattle.up_text.specs.declared.entries.Spelled.{Spelled}
-use Rattle.up_text.specs.declared.kinds.ReplyKind.{ReplyKind}
-use Rattle.up_text.specs.declared.kinds.ReplyKind.TheVariants as reply_forms
-use Rattle.up_text.proofs.Values.{bind_ok, found_ok, either, same_word, other_first, first_digit, number_again, number_takes, number_word, lies_word, flag_takes, flag_word}
-use Rattle.up_text.proofs.CallForms as of_calls
-use Rattle.up_text.proofs.ReplyForms as of_replies
+use Rattle.up_replies.specs.declared.kinds.ReplyKind.{ReplyKind}
+use Rattle.up_replies.specs.declared.kinds.ReplyKind.TheVariants as reply_forms
+use Rattle.up_fields.proofs.Values.{bind_ok, found_ok, either, same_word, other_first, first_digit, number_again, number_takes, number_word, lies_word, flag_takes, flag_word}
+use Rattle.up_calls.proofs.CallForms as of_calls
+use Rattle.up_replies.proofs.ReplyForms as of_replies
 
 -- what an allowed entry's fields are
 pub record IsEntry (e : Entry) : Type 0 where

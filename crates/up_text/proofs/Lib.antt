@@ -1,15 +1,6 @@
-pub mod Spacing
 pub mod Lines
-pub mod Values
-pub mod Listed
-pub mod Rows
-pub mod CallForms
-pub mod ReplyForms
-pub mod Sentences
 pub mod EntryForms
 pub mod Again
 pub mod Takes
 pub mod Prefixes
-pub mod Bounds
-pub mod DeedBounds
 pub mod Sound

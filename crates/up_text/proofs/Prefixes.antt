@@ -13,13 +13,16 @@ use Rattle.std.proofs.lemmas.List.Splits.{join_with_byte-slice_split}
 use Rattle.up_model.specs.declared.entry.Entry.{Entry}
 use Rattle.up_words.specs.Words.{split}
 use Rattle.up_words.proofs.Decimals.{both}
-use Rattle.up_text.specs.Limits.{all_tickets}
-use Rattle.up_text.specs.Text.{spaced, line_of, line_text, call_words, reply_words, entry_words, birth_words, entries_text, end_words, journal_text, text}
+use Rattle.up_fields.specs.Limits.{all_tickets}
+use Rattle.up_fields.specs.Text.{spaced, line_of, line_text}
+use Rattle.up_calls.specs.Text.{call_words}
+use Rattle.up_replies.specs.Text.{reply_words}
+use Rattle.up_text.specs.Text.{entry_words, birth_words, entries_text, end_words, journal_text, text}
 use Rattle.up_text.specs.Allowed.{entry_allowed, journal_allowed, are_new, are_allowed}
 use Rattle.up_text.specs.Laws.{NoTextBeginsAnother}
 use Rattle.up_text.specs.declared.journals.Named.{Named}
-use Rattle.up_text.proofs.Values.{other_first, first_digit}
-use Rattle.up_text.proofs.Sentences.{line_free, split_line}
+use Rattle.up_fields.proofs.Values.{other_first, first_digit}
+use Rattle.up_fields.proofs.Sentences.{line_free, split_line}
 use Rattle.up_text.proofs.EntryForms.{entry_good, birth_good}
 use Rattle.up_text.proofs.Again.{journal_parts, end_good}
 

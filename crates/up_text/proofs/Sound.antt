@@ -18,23 +18,28 @@ use Rattle.up_words.specs.declared.fault.ReadFault.{ReadFault}
 use Rattle.up_words.specs.declared.fault.Why.{Why}
 use Rattle.up_words.specs.declared.fault.Why.TheVariants as why
 use Rattle.up_words.proofs.Decimals.{then_ok, ok_is, both}
-use Rattle.up_text.specs.Limits.{all_tickets, all_counts, all_sizes, all_actors, longest_text, most_bytes, most_journals}
+use Rattle.up_fields.specs.Limits.{all_tickets, all_counts, all_sizes, most_bytes}
+use Rattle.up_text.specs.Limits.{all_actors, longest_text, most_journals}
 use Rattle.up_text.specs.Text.{text}
-use Rattle.up_text.specs.Fields.{flag_in}
-use Rattle.up_text.specs.Kinds.{call_size}
-use Rattle.up_text.specs.Calls.{call_in, call_of}
-use Rattle.up_text.specs.Replies.{reply_in, reply_of}
+use Rattle.up_fields.specs.Fields.{flag_in}
+use Rattle.up_calls.specs.Kinds.{call_size}
+use Rattle.up_calls.specs.Calls.{call_in, call_of}
+use Rattle.up_replies.specs.Replies.{reply_in, reply_of}
 use Rattle.up_text.specs.Reading.{call_part, reply_part, forms_in, entry_in, spelled_bytes, entry_of, entry_line, has_name, limit_in, birth_in, journal_line, end_line, between_line, within_line, nothing_read, line_step, ended, last_step, lines_of, journals_of}
-use Rattle.up_text.specs.Allowed.{lies, call_allowed, reply_allowed, entry_allowed, limit_allowed, birth_allowed, journal_allowed, are_new, are_allowed, entry_bytes, journal_bytes, are_within}
+use Rattle.up_fields.specs.Allowed.{lies}
+use Rattle.up_calls.specs.Allowed.{call_allowed}
+use Rattle.up_replies.specs.Allowed.{reply_allowed}
+use Rattle.up_text.specs.Allowed.{entry_allowed, limit_allowed, birth_allowed, journal_allowed, are_new, are_allowed, entry_bytes, journal_bytes, are_within}
 use Rattle.up_text.specs.Laws.{ReadsWithinLimits}
 use Rattle.up_text.specs.declared.entries.Spelled.{Spelled}
 use Rattle.up_text.specs.declared.journals.Named.{Named}
 use Rattle.up_text.specs.declared.stage.Part.{Part}
 use Rattle.up_text.specs.declared.stage.Stage.{Stage}
 use Rattle.up_text.specs.declared.stage.Stage.TheVariants as stages
-use Rattle.up_text.proofs.Values.{bind_ok, found_ok, either}
-use Rattle.up_text.proofs.Bounds.{number_within}
-use Rattle.up_text.proofs.DeedBounds.{call_within, reply_within}
+use Rattle.up_fields.proofs.Values.{bind_ok, found_ok, either}
+use Rattle.up_fields.proofs.Bounds.{number_within}
+use Rattle.up_calls.proofs.CallBounds.{call_within}
+use Rattle.up_replies.proofs.ReplyBounds.{reply_within}
 use Rattle.up_text.proofs.Again.{back}
 use Rattle.up_text.proofs.Takes.{bad_word, ok_line, bind_line, only}
 

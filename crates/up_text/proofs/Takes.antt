@@ -16,18 +16,20 @@ use Rattle.up_words.specs.declared.fault.Fault.{Fault}
 use Rattle.up_words.specs.declared.fault.Why.{Why}
 use Rattle.up_words.specs.declared.fault.Why.TheVariants as why
 use Rattle.up_words.proofs.Decimals.{then_ok, ok_is}
-use Rattle.up_text.specs.Limits.{all_tickets, longest_text, most_bytes, most_journals}
-use Rattle.up_text.specs.Text.{line_text, entry_words, birth_words, entries_text, end_words, journal_text, text}
-use Rattle.up_text.specs.Fields.{flag_in}
+use Rattle.up_fields.specs.Limits.{all_tickets, most_bytes}
+use Rattle.up_text.specs.Limits.{longest_text, most_journals}
+use Rattle.up_fields.specs.Text.{line_text}
+use Rattle.up_text.specs.Text.{entry_words, birth_words, entries_text, end_words, journal_text, text}
+use Rattle.up_fields.specs.Fields.{flag_in}
 use Rattle.up_text.specs.Reading.{entry_in, spelled_bytes, entry_of, entry_line, has_name, birth_in, journal_line, end_line, between_line, within_line, nothing_read, line_step, ended, last_step, lines_of}
 use Rattle.up_text.specs.Laws.{ReadsOnlyItsText}
 use Rattle.up_text.specs.declared.journals.Named.{Named}
 use Rattle.up_text.specs.declared.stage.Part.{Part}
 use Rattle.up_text.specs.declared.stage.Stage.{Stage}
 use Rattle.up_text.specs.declared.stage.Stage.TheVariants as stages
-use Rattle.up_text.proofs.Values.{bind_ok, found_ok, either, same_word, number_takes}
-use Rattle.up_text.proofs.Rows.{one, two}
-use Rattle.up_text.proofs.Sentences.{words_take}
+use Rattle.up_fields.proofs.Values.{bind_ok, found_ok, either, same_word, number_takes}
+use Rattle.up_fields.proofs.Rows.{one, two}
+use Rattle.up_fields.proofs.Sentences.{words_take}
 use Rattle.up_text.proofs.EntryForms.{entry_takes, birth_takes}
 
 -- the header and the journals that have ended

@@ -1,9 +1,5 @@
-pub mod Kinds
 pub mod Limits
 pub mod Text
-pub mod Fields
-pub mod Calls
-pub mod Replies
 pub mod Reading
 pub mod Allowed
 pub mod Laws

@@ -11,11 +11,12 @@ use Rattle.up_words.specs.Names.{is_name}
 use Rattle.up_words.specs.declared.fault.Fault.{Fault}
 use Rattle.up_words.specs.declared.fault.Why.{Why}
 use Rattle.up_words.specs.declared.fault.Why.TheVariants as why
-use Rattle.up_text.specs.Limits.{all_tickets, all_counts, all_sizes, all_actors, longest_text, most_bytes, most_journals}
-use Rattle.up_text.specs.Fields.{flag_in}
-use Rattle.up_text.specs.Kinds.{call_size}
-use Rattle.up_text.specs.Calls.{call_kind, call_in, call_of, total_of}
-use Rattle.up_text.specs.Replies.{reply_kind, list_fits, reply_in, reply_of}
+use Rattle.up_fields.specs.Limits.{all_tickets, all_counts, all_sizes, most_bytes}
+use Rattle.up_text.specs.Limits.{all_actors, longest_text, most_journals}
+use Rattle.up_fields.specs.Fields.{flag_in, total_of}
+use Rattle.up_calls.specs.Kinds.{call_size}
+use Rattle.up_calls.specs.Calls.{call_kind, call_in, call_of}
+use Rattle.up_replies.specs.Replies.{reply_kind, list_fits, reply_in, reply_of}
 use Rattle.up_text.specs.declared.entries.Spelled.{Spelled}
 use Rattle.up_text.specs.declared.entries.Forms.{Forms}
 use Rattle.up_text.specs.declared.journals.Named.{Named}

@@ -2,10 +2,10 @@ ghost use Rattle.std.specs.Prelude.{◌≡◌};
 ghost use Rattle.up_words.specs.Steps.{Gives};
 ghost use Rattle.up_text.specs.Reading.{birth_in, has_name, journal_line, limit_in};
 
-use crate::fields::{SIZES, read_count, read_flag};
 use crate::journals::Named;
 use crate::stage::{Part, Stage};
 use std::alloc::Global;
+use up_fields::{SIZES, read_count, read_flag};
 use up_model::Birth;
 use up_num::Items;
 use up_words::{Stop, Why, Words, read_between, spells_name};

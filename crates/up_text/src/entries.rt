@@ -1,37 +1,35 @@
-ghost use Rattle.std.specs.Prelude.{◌≡◌, ◌+◌, ◌<◌, length, IfOk};
+ghost use Rattle.std.specs.Prelude.{◌≡◌, ◌+◌, ◌<◌, IfOk};
 ghost use Rattle.up_words.specs.Steps.{Gives, or_why};
 ghost use Rattle.up_words.specs.declared.fault.Why.TheVariants.{Word};
-ghost use Rattle.up_text.specs.Calls.{call_kind};
-ghost use Rattle.up_text.specs.Replies.{reply_kind};
+ghost use Rattle.up_calls.specs.Calls.{call_kind};
+ghost use Rattle.up_replies.specs.Replies.{reply_kind};
 ghost use Rattle.up_text.specs.Reading.{entry_in, entry_line, entry_of, forms_in, spelled_bytes};
 
 #[cfg(test)]
 mod tests;
 
-use crate::calls::{SpelledCall, fill_call, find_call, read_call, total};
-use crate::fields::{COUNTS, TICKETS, read_count};
 use crate::journals::Named;
-use crate::kinds::{CallKind, ReplyKind};
-use crate::replies::{SpelledReply, fill_reply, find_reply, fits_list, read_reply};
 use crate::stage::{Part, Stage};
-use crate::tail::Tail;
 use std::alloc::Global;
+use up_calls::{CallKind, SpelledCall, fill_call, find_call, read_call};
+use up_fields::{COUNTS, TICKETS, Tail, read_count, total};
 use up_model::Entry;
 use up_num::Memory;
+use up_replies::{ReplyKind, SpelledReply, fill_reply, find_reply, fits_list, read_reply};
 use up_words::{Stop, Why, Words, read_between};
 
 /// What the byte lists of a text may spell in sum.
 const BYTES: u64 = 268_435_456;
 
 /// The forms of an entry's call and reply.
-#[derive(Clone, Copy, PartialEq, Eq, Debug)]
+#[derive(Clone, Copy)]
 pub struct Forms {
     pub call: CallKind,
     pub reply: ReplyKind,
 }
 
 /// An entry whose byte lists are still runs.
-#[derive(Debug, Drop)]
+#[derive(Drop)]
 pub struct Spelled {
     pub who: u32,
     pub epoch: u64,

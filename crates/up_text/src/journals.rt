@@ -5,7 +5,7 @@ use up_num::{Bytes, Items};
 pub type Journals = Items<Named>;
 
 /// The journal of an object, oldest entry first, with the object's name and what it was born with.
-#[derive(Debug, Drop)]
+#[derive(Drop)]
 pub struct Named {
     pub name: Bytes,
     pub birth: Birth,

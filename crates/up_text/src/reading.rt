@@ -9,10 +9,10 @@ ghost use Rattle.up_text.specs.Reading.{between_line, end_line, ended, journals_
 
 use crate::births::read_journal_line;
 use crate::entries::read_entry_line;
-use crate::fields::TICKETS;
 use crate::journals::{Journals, Named};
 use crate::stage::{Part, Stage};
 use std::alloc::Global;
+use up_fields::TICKETS;
 use up_num::Items;
 use up_words::{ReadFault, Stop, Why, Words, front, read_between, read_words};
 

@@ -1,14 +1,14 @@
 use crate::journals::{Journals, Named};
 
 /// The journals read so far, and how many bytes their byte lists spell, those of an open journal too.
-#[derive(Debug, Drop)]
+#[derive(Drop)]
 pub struct Part {
     pub journals: Journals,
     pub bytes: u32,
 }
 
 /// What the next line has to be, and what the lines before it said.
-#[derive(Debug, Drop)]
+#[derive(Drop)]
 pub enum Stage {
     Header,
     /// A journal begins, or the text ends.

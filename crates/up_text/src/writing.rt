@@ -1,13 +1,16 @@
 ghost use Rattle.std.specs.Prelude.{◌≡◌, ◌++◌, ◌∷◌, [], OnOk, OnErr, codes, decimal};
 ghost use Rattle.std.specs.List.{flat_map};
-ghost use Rattle.up_text.specs.Text.{birth_words, call_words, end_words, entries_text, entry_words, flag_text, journal_text, limit_text, line_of, line_text, reply_words, spaced, text};
+ghost use Rattle.up_fields.specs.Text.{flag_text, line_of, line_text, spaced};
+ghost use Rattle.up_calls.specs.Text.{call_words};
+ghost use Rattle.up_replies.specs.Text.{reply_words};
+ghost use Rattle.up_text.specs.Text.{birth_words, end_words, entries_text, entry_words, journal_text, limit_text, text};
 
 use crate::journals::{Journals, Named};
-use crate::put::{put_flag, put_next, put_number, put_word};
-use crate::put_calls::put_call;
-use crate::put_replies::put_reply;
+use up_calls::put_call;
+use up_fields::{put_flag, put_next, put_number, put_word};
 use up_model::{Birth, Call, Entry, Reply};
 use up_num::Memory;
+use up_replies::put_reply;
 
 /// Appends the text of the journals. After want of memory nothing is appended.
 pub fn write_journals(journals: &Journals, out: &mut Vec<u8>) -> Result<(), Memory>

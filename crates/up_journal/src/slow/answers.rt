@@ -8,26 +8,24 @@ ghost use Rattle.up_model.specs.Pins as pinning;
 ghost use Rattle.up_model.specs.Reply as replies;
 ghost use Rattle.up_model.specs.Roles as acting;
 ghost use Rattle.up_model.specs.Size as sizing;
-ghost use Rattle.up_journal.specs.Slow.{access_in};
+ghost use Rattle.up_facts.specs.Seen.{access_in};
 ghost use Rattle.up_model.specs.States as states;
 ghost use Rattle.up_model.specs.Tickets as ticketing;
 ghost use Rattle.up_model.specs.Use as uses;
 ghost use Rattle.up_model.specs.Value as values;
 
-use crate::slow::attempts::parked;
-use crate::slow::facts::{bytes_from, has_page, is_dirty, is_plain, is_unclean};
 use crate::slow::modified::modified;
 use crate::slow::order::order;
 use crate::slow::packets::{sent, taken};
-use crate::slow::pins::{loaned, pins};
 use crate::slow::ranges::{
     Test, count_pages, first_page, numbered, one_where, pages_where, unclean_runs,
 };
-use crate::slow::roles::{detached, in_role};
-use crate::slow::sizes::size;
 use crate::slow::tickets::{next_ticket, outcome, woken};
-use crate::slow::uses::newest_epoch;
 use std::alloc::Global;
+use up_facts::{
+    bytes_from, detached, has_page, in_role, is_dirty, is_plain, is_unclean, loaned, newest_epoch,
+    parked, pins, size,
+};
 use up_model::{Birth, Brought, Call, Entry, Reply, Role};
 use up_num::{Items, Memory, Outcome, Packet, PageNo, PageRange, RangeSeq, Refusal};
 

@@ -1,9 +1,8 @@
 ghost use Rattle.std.specs.Prelude.{◌≡◌, reverse};
 ghost use Rattle.up_model.specs.Modified as changes;
-ghost use Rattle.up_journal.specs.Slow.{access_in};
+ghost use Rattle.up_facts.specs.Seen.{access_in};
 
-use super::attempts::attempt;
-use super::sizes::{accepts, size};
+use up_facts::{accepts, attempt, size};
 use up_model::{Birth, Call, Entry, Reply};
 
 fn is_write(access: Option<&Call>) -> bool

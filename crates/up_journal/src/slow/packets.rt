@@ -3,9 +3,8 @@ ghost use Rattle.up_model.specs.Asks as asking;
 ghost use Rattle.up_model.specs.Packets as sending;
 ghost use Rattle.up_model.specs.Pages as pages;
 
-use crate::slow::asking::{Ask, asked, is_blocked, wanted};
-use crate::slow::roles::detached;
 use std::alloc::Global;
+use up_facts::{Ask, asked, detached, is_blocked, wanted};
 use up_model::{Birth, Entry, Reply};
 use up_num::{AskKind, Items, Memory, Packet, PageRange};
 

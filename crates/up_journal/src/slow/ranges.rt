@@ -3,16 +3,14 @@ ghost use Rattle.up_model.specs.Pages as pages;
 ghost use Rattle.up_model.specs.Reply as replies;
 ghost use Rattle.up_journal.specs.Tested.{test_of, HasPages, run_after};
 
-use crate::slow::facts::{has_page, is_plain, is_unclean};
 use crate::slow::order::{is_loose, is_reclaimable};
-use crate::slow::pins::{loaned, pins};
-use crate::slow::sizes::size;
 use std::alloc::Global;
+use up_facts::{has_page, is_plain, is_unclean, loaned, pins, size};
 use up_model::{Birth, Entry};
 use up_num::{DirtyRange, Items, Memory, PageNo, PageRange, PageSeq, RangeSeq};
 
 /// A test on pages.
-#[derive(Clone, Copy, Debug)]
+#[derive(Clone, Copy)]
 pub(crate) enum Test {
     Absent,
     Pinned,
@@ -28,7 +26,7 @@ pub(crate) enum Test {
 }
 
 /// A run of pages of one kind that may go on: zero pages, other pages, or pages of neither kind.
-#[derive(Clone, Copy, Debug)]
+#[derive(Clone, Copy)]
 pub(crate) struct Run {
     pub(crate) kind: Option<bool>,
     pub(crate) count: u32,

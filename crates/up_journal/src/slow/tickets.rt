@@ -3,9 +3,8 @@ ghost use Rattle.up_model.specs.Attempts as attempting;
 ghost use Rattle.up_model.specs.Asks as asking;
 ghost use Rattle.up_model.specs.Tickets as ticketing;
 
-use crate::slow::asking::{Ask, is_blocked, is_waiting, resolved, resolves, wanted_by};
-use crate::slow::attempts::{attempt, blocks};
 use std::alloc::Global;
+use up_facts::{Ask, attempt, blocks, is_blocked, is_waiting, resolved, resolves, wanted_by};
 use up_model::{Birth, Call, Entry};
 use up_num::{Memory, Outcome, Woken};
 

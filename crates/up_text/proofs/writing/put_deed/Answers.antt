@@ -1,7 +1,8 @@
 use Rattle.std.proofs.Common.{arith, ◌∷◌, codes}
 use Rattle.std.proofs.lemmas.Grind.{common_steps}
-use Rattle.up_text.specs.Text.{call_words, reply_words}
-use Rattle.up_text.proofs.Spacing.{spaced_append}
+use Rattle.up_calls.specs.Text.{call_words}
+use Rattle.up_replies.specs.Text.{reply_words}
+use Rattle.up_fields.proofs.Spacing.{spaced_append}
 use Rattle.up_text.proofs.writing.put_deed.Goals as goal
 
 pub returns : goal.returns

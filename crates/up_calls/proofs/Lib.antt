@@ -1,0 +1,3 @@
+pub mod FrameForms
+pub mod CallForms
+pub mod CallBounds

@@ -1,0 +1,5 @@
+pub mod Kinds
+pub mod Frames
+pub mod Text
+pub mod Calls
+pub mod Allowed

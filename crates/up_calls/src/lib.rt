@@ -1,0 +1,14 @@
+//! The calls of a journal text, both ways: one row of words for each call, which is read back as the same.
+#![tactic(auto)]
+
+mod calls;
+mod frames;
+mod kinds;
+mod put_calls;
+
+pub use calls::{SpelledCall, fill_call, find_call, read_call};
+pub use kinds::CallKind;
+pub use put_calls::put_call;
+
+#[cfg(test)]
+mod tests;

@@ -1,0 +1,6 @@
+pub mod Spacing
+pub mod Values
+pub mod Listed
+pub mod Rows
+pub mod Sentences
+pub mod Bounds

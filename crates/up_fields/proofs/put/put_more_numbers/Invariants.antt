@@ -1,0 +1,11 @@
+use Rattle.std.proofs.Common.{◌≡◌, ◌++◌, length}
+use Rattle.std.specs.Prelude.{decimal}
+use Rattle.up_fields.specs.Text.{more_text}
+use Rattle.up_fields.proofs.put.put_more_numbers.Given as goal
+
+-- what was written and what is still to come make the whole
+abbrev pub invariant-loop-rest : goal.invariant-loop-rest
+invariant-loop-rest l = l.out.items ++ more_text decimal l.rest ≡ l.fn.out.items ++ more_text decimal l.numbers
+
+abbrev pub decreases-loop-rest : goal.decreases-loop-rest
+decreases-loop-rest l = length l.rest

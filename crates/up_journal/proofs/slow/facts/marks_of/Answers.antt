@@ -1,5 +1,0 @@
-use Rattle.up_journal.proofs.Lookback.{marks_none}
-use Rattle.up_journal.proofs.slow.facts.marks_of.Goals as goal
-
-pub loop-place-init : goal.loop-place-init
-loop-place-init c = marks_none _ _ _ c.no_marks-marks.ensures

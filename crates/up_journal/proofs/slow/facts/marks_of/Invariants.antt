@@ -1,6 +1,0 @@
-use Rattle.std.proofs.Common.{reverse, take}
-use Rattle.up_journal.specs.Slow.{AreMarks}
-use Rattle.up_journal.proofs.slow.facts.marks_of.Given as goal
-
-abbrev pub invariant-loop-place : goal.invariant-loop-place
-invariant-loop-place l = AreMarks l.fn.birth (reverse (take l.place l.before)) l.page l.marks

@@ -1,6 +1,0 @@
-use Rattle.std.proofs.Common.{◌≡◌, reverse, take}
-use Rattle.up_model.specs.Roles as roles
-use Rattle.up_journal.proofs.slow.roles.was_detached.Given as goal
-
-abbrev pub invariant-loop-place : goal.invariant-loop-place
-invariant-loop-place l = l.found ≡ roles.was_detached (reverse (take l.place l.before))

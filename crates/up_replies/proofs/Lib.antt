@@ -1,0 +1,2 @@
+pub mod ReplyForms
+pub mod ReplyBounds

@@ -1,0 +1,4 @@
+pub mod Kinds
+pub mod Text
+pub mod Replies
+pub mod Allowed

@@ -1,0 +1,13 @@
+//! The replies of a journal text, both ways: one row of words for each reply, which is read back as the same.
+#![tactic(auto)]
+
+mod kinds;
+mod put_replies;
+mod replies;
+
+pub use kinds::ReplyKind;
+pub use put_replies::put_reply;
+pub use replies::{SpelledReply, fill_reply, find_reply, fits_list, read_reply};
+
+#[cfg(test)]
+mod tests;

@@ -1,7 +1,0 @@
-use Rattle.std.proofs.Common.{List, ap, ◌∙◌}
-use Rattle.up_text.specs.Calls.{first_call}
-use Rattle.up_text.specs.declared.kinds.CallKind.{CallKind}
-use Rattle.up_text.proofs.calls.find_call.Goals as goal
-
-pub returns : goal.returns
-returns c = c.find.ensures ∙ ap (λ (kinds : List CallKind). first_call kinds c.args.words.now) c.as_slice.ensures

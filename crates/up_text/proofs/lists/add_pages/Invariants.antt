@@ -1,8 +1,0 @@
-use Rattle.std.proofs.Common.{◌≡◌, [], drop}
-use Rattle.up_words.specs.Steps.{each}
-use Rattle.up_text.specs.Limits.{all_pages}
-use Rattle.up_text.specs.Fields.{list_step, page_in}
-use Rattle.up_text.proofs.lists.add_pages.Given as goal
-
-abbrev pub invariant-loop-at : goal.invariant-loop-at
-invariant-loop-at l = each (list_step (page_in all_pages)) l.found (drop l.at l.pieces) ≡ each (list_step (page_in all_pages)) [] l.pieces
