@@ -7,6 +7,8 @@ pub mod laws;
 mod pass;
 mod rule;
 mod steps;
+#[cfg(test)]
+mod tests;
 mod turn;
 mod view;
 
