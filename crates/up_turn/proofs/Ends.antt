@@ -1,6 +1,6 @@
 -- A turn's beginning and its end.
-use Rattle.std.proofs.Common.{◌≡◌, ◌≢◌, ℕ, zero, suc, ◌+◌, ◌*◌, ◌<◌, ◌≤◌, ◌⊎◌, Bool, true, false, cond, eqb, List, [], ◌∷◌, ◌++◌, length, sym, refl, ap, ◌∙◌, subst, inl, inr, ⊎_elim, arith, eq-eqb, ne_eqb, eqb-true, true≢false, Option, Some, IsPermutation, IsSome, rules}
-use Rattle.std.proofs.lemmas.List.Sorted.{IsPermutation-refl, IsPermutation-sym, IsPermutation-cons, IsPermutation-trans, IsPermutation-middle}
+use Rattle.std.proofs.Common.{◌≡◌, ◌≢◌, ℕ, zero, suc, ◌+◌, ◌*◌, ◌<◌, ◌≤◌, ◌⊎◌, Bool, true, false, cond, eqb, List, [], ◌∷◌, ◌++◌, length, sym, refl, ap, ◌∙◌, subst, inl, inr, ⊎_elim, arith, eq-eqb, ne_eqb, eqb-true, true≢false, Option, Some, IsPermutation, IsSome, rules, length-append}
+use Rattle.std.proofs.lemmas.List.Sorted.{length_permutation, IsPermutation-refl, IsPermutation-sym, IsPermutation-cons, IsPermutation-trans, IsPermutation-middle}
 use mathlib.Core.Option as maybe
 use mathlib.Core.Option.{some, some-injective, some-ne-none}
 use mathlib.Core.Logic.{dite}
@@ -153,3 +153,17 @@ slot_has kin list v xs e o found = some-injective (Some e.value) o (sym e.there 
 pub comes_out : {S : Type 0} (kin : S → Type 0) (list : S → List Entry) (v : View) (xs : List (Option S)) (e : Closes kin list v xs) (o : Option S) → get_elem? xs 0 ≡ some o → (x : S) → o ≡ Some x → Out kin list v x
 comes_out {S} kin list v xs e o found x is = let both : Some e.value ≡ Some x = slot_has kin list v xs e o found ∙ is in let same : e.value ≡ x = cc in
     subst (Out kin list v) same record { fits = e.fits; is = e.is; own = e.own; each_once = e.each_once }
+
+pub length_placed : (from : ℕ) (xs : List Entry) → length (placed from xs) ≡ length xs
+length_placed from [] = refl
+length_placed from (x ∷ xs) = ap suc (length_placed (from + 1) xs)
+
+-- a list whose entries are two passes' own, of one entry each
+pub two_entries : (log : List Entry) (own a b a0 b0 : List Placed) (p q : Placed) → IsPermutation own (placed 0 log) → own ≡ a ++ b → a ≡ a0 ++ p ∷ [] → b ≡ b0 ++ q ∷ [] → a0 ≡ [] → b0 ≡ [] → length log ≡ 2
+two_entries log own a b a0 b0 p q all is one other none nothing =
+    let long : length (placed 0 log) ≡ length own = length_permutation own (placed 0 log) all in
+    let both : length own ≡ length a + length b = ap length is ∙ length-append a b in
+    let first : length a ≡ length a0 + 1 = ap length one ∙ length-append a0 (p ∷ []) in
+    let second : length b ≡ length b0 + 1 = ap length other ∙ length-append b0 (q ∷ []) in
+    let empty : length a0 ≡ 0 = ap length none in let bare : length b0 ≡ 0 = ap length nothing in
+    let as_long : length (placed 0 log) ≡ length log = length_placed 0 log in omega arith

@@ -6,6 +6,7 @@ mod chronicle;
 pub mod laws;
 mod pass;
 mod rule;
+pub mod sheet;
 mod steps;
 #[cfg(test)]
 mod tests;

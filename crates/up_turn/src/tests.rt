@@ -1,9 +1,10 @@
-ghost use Rattle.std.specs.Prelude.{◌≡◌, [], ◌∷◌, ◌++◌, true, false, length, IfOk, OnOk, OnErr};
+ghost use Rattle.std.specs.Prelude.{◌≡◌, [], ◌∷◌, ◌++◌, true, false, length, IfOk};
 ghost use Rattle.up_turn.specs.Placing.{has};
 ghost use Rattle.up_turn.specs.Standing.{first_pass};
-ghost use Rattle.up_turn.specs.Added.{Added, Stays};
+ghost use Rattle.up_turn.specs.Added.{Stays};
 
-use crate::{Chronicle, Pass, Turn};
+use crate::sheet::{Sheet, add};
+use crate::{Pass, Turn};
 use std::alloc::Global;
 use std::sync::Wait;
 use std::test::Fail;
@@ -11,27 +12,6 @@ use std::thread;
 use std::thread::Threads;
 use up_model::{Call, Entry, Reply};
 use up_num::Memory;
-
-// Entries, and a number that never changes.
-#[derive(Drop)]
-struct Sheet {
-    number: u32,
-    entries: Vec<Entry>,
-}
-
-impl Chronicle for Sheet {
-    type Origin = u32;
-
-    ghost use Rattle.std.specs.Prelude.{};
-
-    ghost origin = { λ sheet. sheet.number };
-
-    ghost list = { λ sheet. sheet.entries.items };
-
-    fn count(&self) -> u64 {
-        self.entries.len() as u64
-    }
-}
 
 // A turn over an empty sheet, and its first pass.
 fn begin(alloc: Global, actors: u32) -> Result<(Turn<Sheet>, Pass<Sheet>), Memory>
@@ -58,27 +38,6 @@ fn entry(who: u32, number: u64) -> Entry
         call: Call::Packet,
         reply: Reply::Empty,
     }
-}
-
-// Enters, appends an entry, and leaves.
-fn add<R: Wait>(
-    rt: &R,
-    turn: &Turn<Sheet>,
-    pass: &mut Pass<Sheet>,
-    entry: Entry,
-) -> Result<(), Memory>
-    requires turn { pass.old.turn ≡ turn.now.table }
-    requires outside { pass.old.inside ≡ false }
-    requires holds { has pass.old.numbers entry.who ≡ true }
-    ensures stays { Stays pass.old pass.new }
-    ensures ok { OnOk result (Added pass.old pass.new entry) }
-    ensures err { OnErr result (pass.new.own ≡ pass.old.own) }
-{
-    let mut held = turn.enter(rt, pass);
-    let added = held.state.entries.push(entry);
-    turn.leave(pass, held);
-    added?;
-    Ok(())
 }
 
 #[test]

@@ -72,6 +72,7 @@ impl<S: Chronicle> Turn<S> {
         requires held { held.turn.value ≡ self.now }
         requires origin { S.origin held.state ≡ S.origin self.now.opening }
         requires goes_on { GoesOn pass.old.numbers pass.old.seen (S.list held.state) }
+        ensures later { Begins pass.old.seen pass.new.seen }
         ensures pass { pass.new ≡ came_out pass.old (S.list held.state) }
         ensures own { Tally pass.new.numbers pass.new.own (S.list held.state) }
     {
