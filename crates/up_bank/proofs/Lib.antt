@@ -2,6 +2,7 @@ pub mod Lists
 pub mod Moves
 pub mod Views
 pub mod Steps
+pub mod Tokens
 pub mod Sizes
 pub mod Rises
 pub mod Claims

@@ -1,5 +1,5 @@
 -- A step that changes one frame alone, and a step that changes none, keep the rule.
-use Rattle.std.proofs.Common.{◌≡◌, ◌≢◌, ℕ, suc, ◌<◌, true, false, List, ◌++◌, length, get_or, set, sym, ap, ◌∙◌, subst, ⊎_elim, append_assoc, Option, Some, None}
+use Rattle.std.proofs.Common.{◌≡◌, ◌≢◌, ℕ, suc, ◌<◌, true, false, List, [], ◌++◌, length, get_or, set, refl, sym, ap, ◌∙◌, subst, ⊎_elim, append_assoc, Option, Some, None}
 use mathlib.Core.Logic.{dite}
 use mathlib.Core.Option as maybe
 use mathlib.Core.Option.{some, some-injective}
@@ -7,7 +7,7 @@ use native.Mathlib.Decide.{ℕ_discrete}
 use lib.ListN.{get_elem?}
 use Rattle.atomic_table.proofs.Lists.{at_set, set_here, set_else}
 use Rattle.up_bank.specs.Bytes.{Given, bytes_of, Extends}
-use Rattle.up_bank.specs.Banked.{Vault, home_bit, empty_bit, Has, Alone, Banked}
+use Rattle.up_bank.specs.Banked.{Vault, home_bit, empty_bit, Has, Alone, Met, Lent, Banked}
 use Rattle.up_bank.specs.declared.view.View.{View}
 use Rattle.up_bank.proofs.Lists.{within, put, put_here, put_else}
 
@@ -37,9 +37,41 @@ pub record Moves (frames id k : ℕ) (v w : View) (s : Vault) (r : Banked frames
   pub knows : v.sole ≡ true → get_or w.home k 0 ≡ home_bit ws k
   pub knows_else : (q : ℕ) → q ≢ k → get_or w.home q 0 ≡ get_or v.home q 0
   pub all : v.sole ≡ true → w.gives ≡ gs
+  pub token : w.token ≡ v.token
+  pub later : Extends v.gives w.gives
+  pub one : w.one ≡ v.one
+  pub other : w.other ≡ v.other
 
 pub extends_more : (a b c : List Given) → Extends a b → Extends b c → Extends a c
 extends_more a b c x y = record { newer = y.newer ++ x.newer; is = y.is ∙ (ap (λ (l : List Given). y.newer ++ l) x.is ∙ sym (append_assoc y.newer x.newer a)) }
+
+-- what two seats knew that were made one stays older than what the seat knows
+pub met_later : (v w : View) → Met v → Extends v.gives w.gives → w.one ≡ v.one → w.other ≡ v.other → Met w
+met_later v w m later one other = record {
+  one = subst (λ (l : List Given). Extends l w.gives) (sym one) (extends_more v.one v.gives w.gives m.one later);
+  other = subst (λ (l : List Given). Extends l w.gives) (sym other) (extends_more v.other v.gives w.gives m.other later);
+}
+
+-- a token of another seat, where its frame's seat stays as it was
+pub token_stays : (number keeper keeper' owner owner' : ℕ) (views views' : List View) (j : ℕ) (u : View) (l : Lent number keeper owner views j u) → keeper' ≡ keeper → owner' ≡ owner → get_elem? views' owner ≡ get_elem? views owner → Lent number keeper' owner' views' j u
+token_stays number keeper keeper' owner owner' views views' j u l k o there = record {
+  mine = k ∙ l.mine;
+  rests = l.rests;
+  apart = l.apart;
+  lender = l.lender;
+  there = ap (get_elem? views') o ∙ (there ∙ l.there);
+  has = l.has;
+  lent = l.lent;
+  waits = l.waits;
+}
+
+-- a seat that steps lent nothing, and has no token
+pub far_lender : (number keeper owner : ℕ) (views : List View) (j : ℕ) (u : View) (l : Lent number keeper owner views j u) (id : ℕ) (v : View) → get_elem? views id ≡ some v → v.rests ≡ false → owner ≢ id
+far_lender number keeper owner views j u l id v at acts same = let both : some l.lender ≡ some v = sym l.there ∙ (ap (get_elem? views) same ∙ at) in
+    let wrong : true ≡ false = sym l.waits ∙ (ap (λ (x : View). x.rests) (some-injective l.lender v both) ∙ acts) in cc
+
+pub no_token : (frames : ℕ) (s : Vault) (r : Banked frames s) (id : ℕ) (v : View) → get_elem? s.views id ≡ some v → v.rests ≡ false → (number : ℕ) → v.token ≡ suc number → ⊥
+no_token frames s r id v at acts number is = let l = r.tokens id v at number is in let wrong : true ≡ false = sym l.rests ∙ acts in cc
 
 -- where one seat steps, no other is sole
 pub nobody_sole : (frames : ℕ) (s : Vault) → Banked frames s → (id j : ℕ) (v u : View) → get_elem? s.views id ≡ some v → v.rests ≡ false → get_elem? s.views j ≡ some u → j ≢ id → u.sole ≡ true → ⊥
@@ -111,6 +143,17 @@ module _ (frames id k : ℕ) (v w : View) (s : Vault) (r : Banked frames s) (at 
       (λ (t : (j ≡ id) × (w ≡ u)). subst (λ (z : ℕ × View). Alone frames z.0 z.1 now gs) (λ i. (sym t.0 i, t.1 i)) (sole_mine (ap (λ (x : View). x.sole) t.1 ∙ sole)))
       (λ (t : (j ≢ id) × (get_elem? s.views j ≡ some u)). absurd (nobody_sole frames s r id j v u at m.acts t.1 t.0 sole)) (at_set s.views id j w u there)
 
+  met_now : (j : ℕ) (u : View) → get_elem? now.views j ≡ some u → Met u
+  met_now j u there = ⊎_elim (λ (t : (j ≡ id) × (w ≡ u)). subst Met t.1 (met_later v w (r.met id v at) m.later m.one m.other))
+      (λ (t : (j ≢ id) × (get_elem? s.views j ≡ some u)). r.met j u t.1) (at_set s.views id j w u there)
+
+  tokens_now : (j : ℕ) (u : View) → get_elem? now.views j ≡ some u → (q : ℕ) → u.token ≡ suc q → Lent q (r.keeper q) (owns q) now.views j u
+  tokens_now j u there q is = ⊎_elim
+      (λ (t : (j ≡ id) × (w ≡ u)). absurd (no_token frames s r id v at m.acts q (sym m.token ∙ (ap (λ (x : View). x.token) t.1 ∙ is))))
+      (λ (t : (j ≢ id) × (get_elem? s.views j ≡ some u)). let l = r.tokens j u t.1 q is in let far = far_lender q (r.keeper q) (r.owner q) s.views j u l id v at m.acts in
+      let other : q ≢ k = (λ (e : q ≡ k). m.nobody (r.owner q) l.lender far l.there (l.has ∙ ap suc e)) in
+      token_stays q (r.keeper q) (r.keeper q) (r.owner q) (owns q) s.views now.views j u l refl (put_else r.owner k id q other) (set_else s.views id (r.owner q) w far)) (at_set s.views id j w u there)
+
   pub moved : Banked frames now
   moved = record {
     owner = owns;
@@ -123,6 +166,9 @@ module _ (frames id k : ℕ) (v w : View) (s : Vault) (r : Banked frames s) (at 
     each = each_now;
     seen = seen_now;
     sole = sole_now;
+    keeper = r.keeper;
+    met = met_now;
+    tokens = tokens_now;
   }
 
 -- a view that has what another had, and has seen no more
@@ -132,6 +178,9 @@ pub record SameHand (v w : View) : Type 0 where
   pub sole : w.sole ≡ v.sole
   pub home : w.home ≡ v.home
   pub gives : w.gives ≡ v.gives
+  pub one : w.one ≡ v.one
+  pub other : w.other ≡ v.other
+  pub token : w.token ≡ v.token
 
 -- a step that changes no bit and no slot
 module _ (frames id : ℕ) (v w : View) (s : Vault) (r : Banked frames s) (at : get_elem? s.views id ≡ some v) (acts : v.rests ≡ false) (ws : List ℕ) (wide : length ws ≡ length s.words)
@@ -180,4 +229,11 @@ module _ (frames id : ℕ) (v w : View) (s : Vault) (r : Banked frames s) (at : 
     seen = λ j u there. ⊎_elim (λ (t : (j ≡ id) × (w ≡ u)). subst (λ (x : View). Extends x.gives r.gives) t.1 (subst (λ (g : List Given). Extends g r.gives) (sym same.gives) (r.seen id v at)))
         (λ (t : (j ≢ id) × (get_elem? s.views j ≡ some u)). r.seen j u t.1) (at_set s.views id j w u there);
     sole = sole_still;
+    keeper = r.keeper;
+    met = λ j u there. ⊎_elim (λ (t : (j ≡ id) × (w ≡ u)). subst Met t.1 (met_later v w (r.met id v at) (record { newer = []; is = same.gives }) same.one same.other))
+        (λ (t : (j ≢ id) × (get_elem? s.views j ≡ some u)). r.met j u t.1) (at_set s.views id j w u there);
+    tokens = λ j u there q is. ⊎_elim
+        (λ (t : (j ≡ id) × (w ≡ u)). absurd (no_token frames s r id v at acts q (sym same.token ∙ (ap (λ (x : View). x.token) t.1 ∙ is))))
+        (λ (t : (j ≢ id) × (get_elem? s.views j ≡ some u)). let l = r.tokens j u t.1 q is in
+        token_stays q (r.keeper q) (r.keeper q) (r.owner q) (r.owner q) s.views still.views j u l refl refl (set_else s.views id (r.owner q) w (far_lender q (r.keeper q) (r.owner q) s.views j u l id v at acts))) (at_set s.views id j w u there);
   }

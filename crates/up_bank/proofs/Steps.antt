@@ -13,12 +13,12 @@ use Rattle.atomic_table.specs.Table.{step, keeps, takes, gives, Allows, opening}
 use Rattle.atomic_table.proofs.Lists.{set_here, set_else}
 use Rattle.up_bank.specs.Bytes.{Given, zero_bytes, bytes_of, Extends}
 use Rattle.up_bank.specs.Find.{words_of}
-use Rattle.up_bank.specs.Banked.{Vault, home_bit, empty_bit, Has, Alone, Banked, newcomer}
+use Rattle.up_bank.specs.Banked.{Vault, home_bit, empty_bit, Has, Alone, Met, Banked, newcomer}
 use Rattle.up_bank.specs.Plays.{Slot, Sat, mask_of, saw, fetched, AsKnown, Learns, looked, took, Hit, cleared, vacated, reclaimed, gave, Put, restored}
 use Rattle.up_bank.specs.declared.view.View.{View}
 use Rattle.up_bank.specs.declared.kind.FrameKind.{FrameKind}
 use Rattle.up_bank.proofs.Lists.{extends_none, bit_of, OthersStay, clear_stays, clear_here, set_stays, set_one, one_mask, homes_else, home_here, empties_apart, empties_else, empty_here, homes_apart}
-use Rattle.up_bank.proofs.Moves.{Moves, moved, SameHand, stays}
+use Rattle.up_bank.proofs.Moves.{Moves, moved, SameHand, stays, extends_more}
 
 -- a bit that isn't 1 is 0
 pub not_one : (n i : ℕ) → bit_at n i ≢ 1 → bit_at n i ≡ 0
@@ -53,7 +53,7 @@ module _ (frames : ℕ) (s : Vault) (r : Banked frames s) where
 
 pub looks : (frames slots id word : ℕ) (me : Sat) → me.0.rests ≡ false → Allows (Banked frames) slots id me (word * 2) (λ n. n) (looked (step slots (word * 2) 0 0 none) me)
 looks frames slots id word me acts s r _ at _ = let was : ℕ = get_or s.words (word * 2) 0 in let w : View = saw me.0 word was in
-    let same : SameHand me.0 w = record { has = refl; empty = refl; sole = refl; home = refl; gives = refl } in (
+    let same : SameHand me.0 w = record { has = refl; empty = refl; sole = refl; home = refl; gives = refl; one = refl; other = refl; token = refl } in (
       w,
       keeps,
       tt,
@@ -99,10 +99,14 @@ module _ (frames id k : ℕ) (me : Sat) (inside : k < frames) (acts : me.0.rests
     knows = λ sole. let long = (r.sole id me.0 at sole).long in get_or-set_same me.0.home k 0 0 (omega arith) ∙ sym gone_now;
     knows_else = λ q other. get_or-set_other me.0.home k q 0 0 other;
     all = λ _. refl;
+    token = refl;
+    later = r.seen id me.0 at;
+    one = refl;
+    other = refl;
   }
 
   miss_stays : bit_at found (k % 64) ≡ 0 → Banked frames record { words = left_over; homes = s.homes; views = set s.views id (fetched me.0 k found) }
-  miss_stays zero_bit = let same : SameHand me.0 (fetched me.0 k found) = record { has = refl; empty = refl; sole = refl; home = refl; gives = refl } in
+  miss_stays zero_bit = let same : SameHand me.0 (fetched me.0 k found) = record { has = refl; empty = refl; sole = refl; home = refl; gives = refl; one = refl; other = refl; token = refl } in
       stays frames id me.0 (fetched me.0 k found) s r at acts left_over (length-set s.words (k / 64 * 2) (bit_and found (mask_of k)))
       (λ q. dite (ℕ_discrete q k) (λ (e : q ≡ k). subst (λ (z : ℕ). home_bit left_over z ≡ home_bit s.words z) (sym e) (gone_now ∙ sym zero_bit))
       (λ other. homes_else s.words k (bit_and found (mask_of k)) there q (clear_stays found k) other))
@@ -168,6 +172,10 @@ module _ (frames id k : ℕ) (v : View) (has : v.has ≡ suc k) (acts : v.rests 
     knows = λ sole. (r.sole id v at sole).knows k inside ∙ sym (homes_apart s.words k now there k);
     knows_else = λ q other. refl;
     all = λ sole. (r.sole id v at sole).all;
+    token = refl;
+    later = extends_none v.gives;
+    one = refl;
+    other = refl;
   }
 
   abbrev homes : ℕ
@@ -198,6 +206,10 @@ module _ (frames id k : ℕ) (v : View) (has : v.has ≡ suc k) (acts : v.rests 
         knows = λ sole. let long = (r.sole id v at sole).long in get_or-set_same v.home k 1 0 (omega arith) ∙ sym one;
         knows_else = λ q other. get_or-set_other v.home k q 1 0 other;
         all = λ _. refl;
+        token = refl;
+        later = extends_more v.gives r.gives gs (r.seen id v at) (record { newer = record { number = k; bytes = b } ∷ []; is = refl });
+        one = refl;
+        other = refl;
       }
 
 pub vacates : (frames slots id k : ℕ) (v : View) (cs : List (ℕ × Slot)) → v.has ≡ suc k → v.rests ≡ false
@@ -267,6 +279,9 @@ opens frames kind words wide full empty = let s : Vault = opening words (replica
       out = λ k l gone. let home_is = home_all k l in absurd (omega arith);
       each = λ j u there k has. let wrong : 0 ≡ suc k = ap (λ (x : View). x.has) (one j u there).1 ∙ has in absurd (omega arith);
       seen = λ j u there. subst (λ (x : View). Extends x.gives []) (one j u there).1 (extends_none []);
+      keeper = λ _. 0;
+      met = λ j u there. subst Met (one j u there).1 (record { one = extends_none []; other = extends_none [] });
+      tokens = λ j u there k is. let wrong : 0 ≡ suc k = ap (λ (x : View). x.token) (one j u there).1 ∙ is in absurd (omega arith);
       sole = λ j u there sole. let mine : Alone frames 0 (newcomer frames kind) s [] = record {
         others = λ i x here other. absurd (other (one i x here).0);
         long = length-replicate frames 1;

@@ -1,18 +1,22 @@
 -- A seat that is cut in two, and a seat that takes in another, keep the rule.
 use Rattle.std.proofs.Common.{◌≡◌, ◌≢◌, ℕ, suc, ◌<◌, true, false, List, [], ◌∷◌, ◌++◌, length, get_or, set, sym, refl, ap, ◌∙◌, subst, ⊎_elim, arith, length-set, length-append, append-nil, Bool, cond, nat_lt, ◌+◌, ◌≤◌}
-use Rattle.std.proofs.lemmas.Bool.{le-ltb}
+use Rattle.std.proofs.lemmas.Bool.{le-ltb, lt-ltb}
 use mathlib.Core.Logic.{dite}
 use mathlib.Core.Option.{some, some-injective}
-use native.Mathlib.Decide.{ℕ_discrete}
+use native.Mathlib.Decide.{ℕ_discrete, dec_lt}
 use lib.ListN.{get_elem?}
 use Rattle.atomic_table.specs.Table.{Splits, Joins}
 use Rattle.atomic_table.proofs.Lists.{at_set, set_here, set_else, at_longer, at_last}
 use Rattle.up_bank.specs.Bytes.{Given, Extends, longer}
 use Rattle.up_bank.specs.Plays.{shed, framed, parted, second, united, merged, spent}
-use Rattle.up_bank.specs.Banked.{Vault, home_bit, Has, Alone, Banked}
+use Rattle.up_bank.specs.Banked.{Vault, home_bit, Has, Alone, Met, Lent, Banked}
 use Rattle.up_bank.specs.declared.view.View.{View}
-use Rattle.up_bank.proofs.Lists.{within, at_yes, at_no, at_end}
-use Rattle.up_bank.proofs.Moves.{nobody_sole}
+use Rattle.up_bank.proofs.Lists.{within, at_yes, at_no, at_end, extends_none}
+use Rattle.up_bank.proofs.Moves.{nobody_sole, token_stays, far_lender, no_token}
+
+-- a seat that knows of no return
+pub none_met : {v : View} → v.gives ≡ [] → v.one ≡ [] → v.other ≡ [] → Met v
+none_met {v} gives one other = record { one = record { newer = []; is = gives ∙ sym one }; other = record { newer = []; is = gives ∙ sym other } }
 
 -- a view cut in two: what it had goes to the second
 pub record Cuts (v left right : View) : Type 0 where
@@ -24,6 +28,10 @@ pub record Cuts (v left right : View) : Type 0 where
   pub busy : right.sole ≡ true → ⊥
   pub left_seen : (gs : List Given) → Extends v.gives gs → Extends left.gives gs
   pub right_seen : (gs : List Given) → Extends v.gives gs → Extends right.gives gs
+  pub left_met : Met v → Met left
+  pub right_met : Met v → Met right
+  pub left_token : left.token ≡ v.token
+  pub right_token : (q : ℕ) → right.token ≡ suc q → v.token ≡ suc q
 
 module _ (frames id : ℕ) (v left right : View) (cut : Cuts v left right) (s : Vault) (r : Banked frames s) (at : get_elem? s.views id ≡ some v) where
   abbrev kept : List View
@@ -82,6 +90,14 @@ module _ (frames id : ℕ) (v left right : View) (cut : Cuts v left right) (s : 
       (λ t. absurd (cut.busy (ap (λ (x : View). x.sole) t.1 ∙ sole)))
       (λ t. absurd (nobody_sole frames s r id j v u at cut.acts t.1 t.0 sole))
 
+  tokens_cut : (j : ℕ) (u : View) → get_elem? cut_now.views j ≡ some u → (q : ℕ) → u.token ≡ suc q → Lent q (r.keeper q) (heir q) cut_now.views j u
+  tokens_cut j u there q is = which (Lent q (r.keeper q) (heir q) cut_now.views j u) j u there
+      (λ t. absurd (no_token frames s r id v at cut.acts q (sym cut.left_token ∙ (ap (λ (x : View). x.token) t.1 ∙ is))))
+      (λ t. absurd (no_token frames s r id v at cut.acts q (cut.right_token q (ap (λ (x : View). x.token) t.1 ∙ is))))
+      (λ t. let l = r.tokens j u t.1 q is in let far = far_lender q (r.keeper q) (r.owner q) s.views j u l id v at cut.acts in
+      token_stays q (r.keeper q) (r.keeper q) (r.owner q) (heir q) s.views cut_now.views j u l refl (heir_else q far)
+      (at_longer kept (right ∷ []) (r.owner q) l.lender (set_else s.views id (r.owner q) left far ∙ l.there) ∙ sym l.there))
+
   pub cut_in_two : Banked frames cut_now
   cut_in_two = record {
     owner = heir;
@@ -94,6 +110,9 @@ module _ (frames id : ℕ) (v left right : View) (cut : Cuts v left right) (s : 
     each = each_cut;
     seen = seen_cut;
     sole = sole_cut;
+    keeper = r.keeper;
+    met = λ j u there. let was = r.met id v at in which (Met u) j u there (λ t. subst Met t.1 (cut.left_met was)) (λ t. subst Met t.1 (cut.right_met was)) (λ t. r.met j u t.1);
+    tokens = tokens_cut;
   }
 
 -- a frame gets a seat of its own
@@ -107,6 +126,10 @@ sheds frames id v acts s r at = cut_in_two frames id v (shed v) (framed v) recor
   busy = λ (e : false ≡ true). cc;
   left_seen = λ gs x. x;
   right_seen = λ gs x. record { newer = gs; is = sym (append-nil gs) };
+  left_met = λ m. record { one = m.one; other = m.other };
+  right_met = λ m. none_met refl refl refl;
+  left_token = refl;
+  right_token = λ q (is : 0 ≡ suc q). absurd (omega arith);
 } s r at
 
 -- a second seat is made
@@ -120,12 +143,16 @@ parts frames id v acts bare full s r at = cut_in_two frames id v (parted v) (sec
   busy = λ (e : false ≡ true). cc;
   left_seen = λ gs x. x;
   right_seen = λ gs x. x;
+  left_met = λ m. record { one = m.one; other = m.other };
+  right_met = λ m. record { one = m.one; other = m.other };
+  left_token = refl;
+  right_token = λ q is. is;
 } s r at
 
 -- a seat with no frame takes in another, which rests from then on
 module _ (frames id : ℕ) (v : View) (other : ℕ) (w : View) (acts : v.rests ≡ false) (bare : v.has ≡ 0) (s : Vault) (r : Banked frames s) (at : get_elem? s.views id ≡ some v) (apart : other ≢ id)
     (there : get_elem? s.views other ≡ some w) (both : View) (has_is : both.has ≡ w.has) (empty_is : both.empty ≡ w.empty) (sole_is : both.sole ≡ v.sole) (home_is : both.home ≡ v.home)
-    (seen_is : Extends both.gives r.gives) (all_is : v.sole ≡ true → both.gives ≡ v.gives) where
+    (seen_is : Extends both.gives r.gives) (all_is : v.sole ≡ true → both.gives ≡ v.gives) (met_is : Met both) (token_is : both.token ≡ v.token) (free : w.lent ≡ true → w.rests ≡ true → ⊥) where
   abbrev once : List View
   once = set s.views id both
 
@@ -177,6 +204,16 @@ module _ (frames id : ℕ) (v : View) (other : ℕ) (w : View) (acts : v.rests �
     all = all_is was ∙ a.all;
   }
 
+  tokens_join : (j : ℕ) (u : View) → get_elem? join_now.views j ≡ some u → (q : ℕ) → u.token ≡ suc q → Lent q (r.keeper q) (taker q) join_now.views j u
+  tokens_join j u here q is = whose (Lent q (r.keeper q) (taker q) join_now.views j u) j u here
+      (λ t. absurd (no_token frames s r id v at acts q (sym token_is ∙ (ap (λ (x : View). x.token) t.1 ∙ is))))
+      (λ t. let wrong : 0 ≡ suc q = ap (λ (x : View). x.token) t.1 ∙ is in absurd (omega arith))
+      (λ t. let l = r.tokens j u t.2 q is in let far = far_lender q (r.keeper q) (r.owner q) s.views j u l id v at acts in
+      let else : r.owner q ≢ other = (λ (e : r.owner q ≡ other). let same : some l.lender ≡ some w = sym l.there ∙ (ap (get_elem? s.views) e ∙ there) in let it : l.lender ≡ w = some-injective l.lender w same in
+      free (ap (λ (x : View). x.lent) (sym it) ∙ l.lent) (ap (λ (x : View). x.rests) (sym it) ∙ l.waits)) in
+      token_stays q (r.keeper q) (r.keeper q) (r.owner q) (taker q) s.views join_now.views j u l refl (taker_else q else)
+      (set_else once other (r.owner q) spent else ∙ set_else s.views id (r.owner q) both far))
+
   pub joined : Banked frames join_now
   joined = record {
     owner = taker;
@@ -187,6 +224,9 @@ module _ (frames id : ℕ) (v : View) (other : ℕ) (w : View) (acts : v.rests �
     empty = r.empty;
     out = out_join;
     each = each_join;
+    keeper = r.keeper;
+    met = λ j u here. whose (Met u) j u here (λ t. subst Met t.1 met_is) (λ t. subst Met t.1 (none_met refl refl refl)) (λ t. r.met j u t.2);
+    tokens = tokens_join;
     seen = λ j u here. whose (Extends u.gives r.gives) j u here (λ t. subst (λ (x : View). Extends x.gives r.gives) t.1 seen_is)
         (λ t. subst (λ (x : View). Extends x.gives r.gives) t.1 (record { newer = r.gives; is = sym (append-nil r.gives) })) (λ t. r.seen j u t.2);
     sole = λ j u here sole. whose (Alone frames j u join_now r.gives) j u here
@@ -196,12 +236,21 @@ module _ (frames id : ℕ) (v : View) (other : ℕ) (w : View) (acts : v.rests �
   }
 
 -- the other stood there before
-was_there : (s : Vault) (id other : ℕ) (both w : View) → other ≢ id → get_elem? (set s.views id both) other ≡ some w → get_elem? s.views other ≡ some w
+pub was_there : (s : Vault) (id other : ℕ) (both w : View) → other ≢ id → get_elem? (set s.views id both) other ≡ some w → get_elem? s.views other ≡ some w
 was_there s id other both w apart there = ⊎_elim (λ (t : (other ≡ id) × (both ≡ w)). absurd (apart t.0)) (λ (t : (other ≢ id) × (get_elem? s.views other ≡ some w)). t.1) (at_set s.views id other both w there)
 
-pub regains : (frames id : ℕ) (v : View) (other : ℕ) (w : View) → v.rests ≡ false → v.has ≡ 0 → Joins (Banked frames) id v other w (united v w) spent
-regains frames id v other w acts bare s r at apart there =
+pub regains : (frames id : ℕ) (v : View) (other : ℕ) (w : View) → v.rests ≡ false → v.has ≡ 0 → w.lent ≡ false → Joins (Banked frames) id v other w (united v w) spent
+regains frames id v other w acts bare free s r at apart there = let m = r.met id v at in
     joined frames id v other w acts bare s r at apart (was_there s id other (united v w) w apart there) (united v w) refl refl refl refl (r.seen id v at) (λ _. refl)
+    (record { one = m.one; other = m.other }) refl (λ lent rests. (let wrong : true ≡ false = sym lent ∙ free in cc))
+
+-- of two ends of one list the shorter is an end of the longer
+end_of : (a b gs : List Given) → Extends a gs → Extends b gs → length a ≤ length b → Extends a b
+end_of a b gs x y low = ends x.newer y.newer (sym x.is ∙ y.is) where
+  ends : (p q : List Given) → p ++ a ≡ q ++ b → Extends a b
+  ends p [] e = record { newer = p; is = sym e }
+  ends [] (g ∷ q) e = let long : length a ≡ length (g ∷ (q ++ b)) = ap length e in let more : length (q ++ b) ≡ length q + length b = length-append q b in absurd (omega arith)
+  ends (f ∷ p) (g ∷ q) e = ends p q (cc)
 
 shorter : (a b : List Given) → length b ≤ length a → longer a b ≡ a
 shorter a b low = ap (λ (t : Bool). cond t b a) (le-ltb (length a) (length b) low)
@@ -212,8 +261,16 @@ extends_longer a b gs x y = either_way (nat_lt (length a) (length b)) where
   either_way true = y
   either_way false = x
 
-pub unites : (frames id : ℕ) (v : View) (other : ℕ) (w : View) → v.rests ≡ false → v.has ≡ 0 → Joins (Banked frames) id v other w (merged v w) spent
-unites frames id v other w acts bare s r at apart there = let was = was_there s id other (merged v w) w apart there in let x = r.seen id v at in let y = r.seen other w was in
+-- of two seats' returns both are older than the longer ones
+longer_met : (a b gs : List Given) → Extends a gs → Extends b gs → Extends a (longer a b) × Extends b (longer a b)
+longer_met a b gs x y = dite (dec_lt (length a) (length b))
+    (λ (low : length a < length b). let is : longer a b ≡ b = ap (λ (t : Bool). cond t b a) (lt-ltb (length a) (length b) low) in
+    subst (λ (l : List Given). Extends a l × Extends b l) (sym is) (end_of a b gs x y (omega arith), extends_none b))
+    (λ not_low. let low : length b ≤ length a = omega arith in subst (λ (l : List Given). Extends a l × Extends b l) (sym (shorter a b low)) (extends_none a, end_of b a gs y x low))
+
+pub unites : (frames id : ℕ) (v : View) (other : ℕ) (w : View) → v.rests ≡ false → v.has ≡ 0 → w.rests ≡ false → Joins (Banked frames) id v other w (merged v w) spent
+unites frames id v other w acts bare busy s r at apart there = let was = was_there s id other (merged v w) w apart there in let x = r.seen id v at in let y = r.seen other w was in
     joined frames id v other w acts bare s r at apart was (merged v w) refl refl refl refl (extends_longer v.gives w.gives r.gives x y)
     (λ sole. let all = (r.sole id v at sole).all in let known : length r.gives ≡ length v.gives = ap length (sym all) in
     let sum_is : length r.gives ≡ length y.newer + length w.gives = ap length y.is ∙ length-append y.newer w.gives in shorter v.gives w.gives (omega arith))
+    (let b = longer_met v.gives w.gives r.gives x y in record { one = b.0; other = b.1 }) refl (λ lent rests. (let wrong : true ≡ false = sym rests ∙ busy in cc))

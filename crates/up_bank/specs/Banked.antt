@@ -35,9 +35,26 @@ pub record Alone (frames j : ℕ) (v : View) (s : Vault) (gives : List Given) : 
   pub knows : (number : ℕ) → number < frames → slice_index v.home number ≡ home_bit s.words number
   pub all : v.gives ≡ gives
 
+-- the returns that two seats knew of, which were made one, are older than those that the seat knows of
+pub record Met (v : View) : Type 0 where
+  pub one : Extends v.one v.gives
+  pub other : Extends v.other v.gives
+
+-- the seat j has the one token of a frame, which another seat has, rests with and lent
+pub record Lent (number keeper owner : ℕ) (views : List View) (j : ℕ) (v : View) : Type 0 where
+  pub mine : keeper ≡ j
+  pub rests : v.rests ≡ true
+  pub apart : v.has ≢ suc number
+  pub lender : View
+  pub there : get_elem? views owner ≡ some lender
+  pub has : lender.has ≡ suc number
+  pub lent : lender.lent ≡ true
+  pub waits : lender.rests ≡ true
+
 -- The rule. A frame at home has its slot at home, with the bytes of its last return. Each other frame has one owner, the seat that has its number. An empty slot is at home where its bit is set
 pub record Banked (frames : ℕ) (s : Vault) : Type 0 where
   pub owner : ℕ → ℕ
+  pub keeper : ℕ → ℕ
   pub gives : List Given
   pub wide : length s.words ≡ words_of frames * 2
   pub slots : length s.homes ≡ frames
@@ -47,7 +64,9 @@ pub record Banked (frames : ℕ) (s : Vault) : Type 0 where
   pub each : (j : ℕ) (v : View) → get_elem? s.views j ≡ some v → (number : ℕ) → v.has ≡ suc number → Has frames number s.words (owner number) j v
   pub seen : (j : ℕ) (v : View) → get_elem? s.views j ≡ some v → Extends v.gives gives
   pub sole : (j : ℕ) (v : View) → get_elem? s.views j ≡ some v → v.sole ≡ true → Alone frames j v s gives
+  pub met : (j : ℕ) (v : View) → get_elem? s.views j ≡ some v → Met v
+  pub tokens : (j : ℕ) (v : View) → get_elem? s.views j ≡ some v → (number : ℕ) → v.token ≡ suc number → Lent number (keeper number) (owner number) s.views j v
 
 -- the view of the first seat
 abbrev pub newcomer : ℕ → FrameKind → View
-newcomer frames kind = record { has = 0; empty = 0; rests = false; sole = true; kind = kind; home = replicate frames 1; finds = []; gives = [] }
+newcomer frames kind = record { has = 0; empty = 0; rests = false; sole = true; kind = kind; home = replicate frames 1; finds = []; gives = []; one = []; other = []; lent = false; token = 0 }

@@ -1,8 +1,9 @@
 -- What each kind of step on a bank's table tells its seat: of the step, the seat before, the word found and the seat after.
-use Rattle.std.specs.Prelude.{◌≡◌, ℕ, ◌*◌, ◌/◌, ◌%◌, ◌^◌, ◌<◌, suc, true, false, List, [], ◌∷◌, ◌++◌, length, slice_index, slice_set, Option, Some, None}
+use Rattle.std.specs.Prelude.{◌≡◌, ◌≢◌, ℕ, ◌*◌, ◌/◌, ◌%◌, ◌^◌, ◌<◌, suc, true, false, List, [], ◌∷◌, ◌++◌, length, slice_index, slice_set, Option, Some, None}
 use Rattle.std.specs.Int.{bit_at, bit_not, w64}
 use Rattle.atomic_table.specs.Table.{Me, Step, rest}
 use Rattle.up_bank.specs.Bytes.{Given, bytes_of, Extends, longer}
+use Rattle.up_bank.specs.Banked.{Met}
 use Rattle.up_bank.specs.declared.kind.FrameKind.TheVariants.{Ordinary}
 use Rattle.up_bank.specs.declared.view.View.{View}
 
@@ -78,7 +79,7 @@ shed v = record v { has = 0; empty = 0 }
 
 -- the frame's own seat
 abbrev pub framed : View → View
-framed v = record v { rests = true; sole = false; home = []; finds = []; gives = [] }
+framed v = record v { rests = true; sole = false; home = []; finds = []; gives = []; one = []; other = []; lent = false; token = 0 }
 
 -- a seat that has company, and no frame
 abbrev pub parted : View → View
@@ -94,8 +95,40 @@ united v w = record v { has = w.has; empty = w.empty }
 
 -- a seat that knows what another knew
 abbrev pub merged : View → View → View
-merged v w = record v { has = w.has; empty = w.empty; gives = longer v.gives w.gives }
+merged v w = record v { has = w.has; empty = w.empty; gives = longer v.gives w.gives; one = v.gives; other = w.gives }
 
 -- the seat that was given up; its kind is of no matter
 abbrev pub spent : View
-spent = record { has = 0; empty = 0; rests = true; sole = false; kind = Ordinary; home = []; finds = []; gives = [] }
+spent = record { has = 0; empty = 0; rests = true; sole = false; kind = Ordinary; home = []; finds = []; gives = []; one = []; other = []; lent = false; token = 0 }
+
+-- a load of no home bits, after a join: the returns of both seats are known
+abbrev pub settled : Stepped → Sat → ℕ → Sat → Type 0
+settled st m was m' = (m' ≡ m) × Met m.0
+
+-- a load of no home bits, with a token in hand: it isn't of the frame that the seat has
+abbrev pub told_apart : Stepped → Sat → ℕ → Sat → Type 0
+told_apart st m was m' = (m' ≡ m) × ((number : ℕ) → m.0.token ≡ suc number → m.0.has ≢ suc number)
+
+-- a frame's seat that lends, and the token of its frame
+abbrev pub lends : View → View
+lends v = record v { lent = true }
+
+abbrev pub token_of : ℕ → View → View
+token_of token v = record { has = 0; empty = 0; rests = true; sole = false; kind = v.kind; home = []; finds = []; gives = []; one = []; other = []; lent = false; token = token }
+
+abbrev pub lent_out : View → View
+lent_out v = token_of v.has v
+
+-- a frame's seat that takes in a token, and gives it away again
+abbrev pub shown : View → View → View
+shown v w = record v { token = w.token }
+
+abbrev pub hidden : View → View
+hidden v = record v { token = 0 }
+
+abbrev pub taken_back : View → View
+taken_back v = token_of v.token v
+
+-- a frame's seat whose token came home
+abbrev pub repaid : View → View → View
+repaid v w = record v { lent = false }

@@ -14,6 +14,12 @@ pub record Idle (m : Sat) : Type 0 where
   pub acts : m.0.rests ≡ false
   pub bare : m.1 ≡ []
 
+-- a frame's own seat, with no token given or taken
+pub record Rests (v : View) : Type 0 where
+  pub rests : v.rests ≡ true
+  pub lent : v.lent ≡ false
+  pub token : v.token ≡ 0
+
 -- the finds have the frame out; a sole seat knew it
 pub record Gone (v : View) (more : List Find) (number : ℕ) : Type 0 where
   pub found : Any (HasOut number) more

@@ -1,4 +1,4 @@
-ghost use Rattle.std.specs.Prelude.{◌≡◌, ◌+◌, ◌<◌, ◌≤◌, [], ◌∷◌, true, false, length, replicate, slice_index, slice_set, sum, IsTrue, IfOk, IfErr, Some};
+ghost use Rattle.std.specs.Prelude.{◌≡◌, ◌≢◌, ◌+◌, ◌<◌, ◌≤◌, [], ◌∷◌, true, false, length, replicate, slice_index, slice_set, sum, IsTrue, IfOk, IfErr, Some};
 ghost use Rattle.up_bank.specs.Bytes.{Extends, Brings, bytes_of, longer};
 ghost use Rattle.up_bank.specs.Find.{FoundHome, FoundOut, NoneTwice, Scanned, Counted, words_of};
 ghost use Rattle.up_bank.specs.Standing.{first_seat, second_seat, frames_of, most_frames};
@@ -6,7 +6,7 @@ ghost use Rattle.up_bank.specs.Standing.{first_seat, second_seat, frames_of, mos
 use crate::Memory;
 use crate::frame::Frame;
 use crate::kind::FrameKind;
-use crate::rule::{Board, Part, Place, Shape, Unite};
+use crate::rule::{Board, Part, Place, Shape};
 use std::alloc::Global;
 use std::marker::Model;
 use std::snapshot::Snapshot;
@@ -160,9 +160,21 @@ impl Bank {
     pub fn join(&self, seat: &mut BankSeat, other: BankSeat)
         requires seat { seat.old.bank ≡ self.now }
         requires other { other.bank ≡ self.now }
-        ensures { seat.new ≡ record seat.old { gives = longer seat.old.gives other.gives } }
+        ensures seat { seat.new ≡ record seat.old { gives = longer seat.old.gives other.gives } }
+        ensures seen { Extends seat.old.gives seat.new.gives × Extends other.gives seat.new.gives }
     {
         let BankSeat { place } = other;
-        self.table.shared.join_seat::<Unite>(&mut seat.place, place);
+        self.unite(&mut seat.place, place);
+    }
+
+    /// Two frames that are out at once have different numbers. This tells it of two that are at hand, by a few loads, and
+    /// leaves both as they were.
+    pub fn apart(&self, one: &mut Frame, other: &mut Frame)
+        requires { (one.old.bank ≡ self.now) × (other.old.bank ≡ self.now) }
+        ensures same { (one.new ≡ one.old) × (other.new ≡ other.old) }
+        ensures numbers { one.old.number ≢ other.old.number }
+    {
+        self.tell_apart(&mut one.place, one.number, &mut other.place);
+        let _ = other.number;
     }
 }

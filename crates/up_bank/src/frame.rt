@@ -16,6 +16,7 @@ pub struct Frame {
 
 impl Model for Frame {
     ghost use Rattle.std.specs.Prelude.{◌≡◌, ◌<◌, [], suc};
+    ghost use Rattle.up_bank.specs.Scan.{Rests};
     ghost use Rattle.up_bank.specs.Standing.{Held};
 
     ghost Value = { Held };
@@ -26,7 +27,7 @@ impl Model for Frame {
       bytes = frame.block;
     } };
 
-    ghost invariant = { λ frame. (frame.place.me.0.has ≡ suc frame.number) × (frame.place.me.0.empty ≡ 1) × (frame.place.me.1 ≡ []) × (frame.number < frame.place.table_id.slots) };
+    ghost invariant = { λ frame. (frame.place.me.0.has ≡ suc frame.number) × (frame.place.me.0.empty ≡ 1) × (frame.place.me.1 ≡ []) × (frame.number < frame.place.table_id.slots) × Rests frame.place.me.0 };
 }
 
 impl Frame {

@@ -1,19 +1,22 @@
 //! The steps of a bank's calls on its table, by seats of the table.
-ghost use Rattle.std.specs.Prelude.{◌≡◌, ℕ, ◌∷◌, ◌+◌, ◌-◌, ◌*◌, ◌/◌, ◌%◌, ◌<◌, ◌≤◌, ◌^◌, [], length, replicate, slice_index, min, suc, MatchOption, IfOk, Some, IsTrue, false};
+ghost use Rattle.std.specs.Prelude.{◌≡◌, ◌≢◌, ℕ, ◌∷◌, ◌+◌, ◌-◌, ◌*◌, ◌/◌, ◌%◌, ◌<◌, ◌≤◌, ◌^◌, [], length, replicate, slice_index, min, suc, MatchOption, IfOk, Some, IsTrue, false};
 ghost use Rattle.std.specs.Int.{bit_at};
 ghost use Rattle.atomic_table.specs.declared.shared.Seat.{Seat};
-ghost use Rattle.up_bank.specs.Bytes.{zero_bytes};
+ghost use Rattle.up_bank.specs.Bytes.{zero_bytes, Extends};
 ghost use Rattle.up_bank.specs.Banked.{newcomer};
 ghost use Rattle.up_bank.specs.Find.{words_of, bits_set};
 ghost use Rattle.up_bank.specs.Standing.{frames_of};
-ghost use Rattle.up_bank.specs.Plays.{AsKnown, saw, fetched, Put};
-ghost use Rattle.up_bank.specs.Scan.{Idle, Claimed, Got, IsIn, Missed, Counting, frames_in};
+ghost use Rattle.up_bank.specs.Plays.{AsKnown, saw, fetched, merged, Put};
+ghost use Rattle.up_bank.specs.Scan.{Idle, Rests, Claimed, Got, IsIn, Missed, Counting, frames_in};
 
 use crate::Memory;
 use crate::bank::Bank;
 use crate::block::Block;
 use crate::frame::Frame;
-use crate::rule::{Board, Clear, Look, Place, Reclaim, Regain, Restore, Shape, Shed, Vacate};
+use crate::rule::{
+    Board, Clear, Hide, Lend, Look, Place, Reclaim, Regain, Repay, Restore, Settle, Shape, Shed,
+    Show, Tell, Unite, Vacate,
+};
 use atomic_table::{Refused, Table};
 use std::alloc::{AllocError, Global};
 
@@ -179,7 +182,7 @@ impl Bank {
         requires bank { (place.old.table_id ≡ self.now.table) × (own.table_id ≡ self.now.table) }
         requires within { number < self.now.table.slots }
         requires idle { Idle place.old.me }
-        requires own { (own.me.0.has ≡ suc number) × (own.me.0.empty ≡ 1) × (own.me.1 ≡ []) }
+        requires own { (own.me.0.has ≡ suc number) × (own.me.0.empty ≡ 1) × (own.me.1 ≡ []) × Rests own.me.0 }
         ensures same { place.new.table_id ≡ place.old.table_id }
         ensures put { (was : ℕ) × Put number block (place.old.me.0, (number, Some block) ∷ []) was place.new.me }
     {
@@ -196,6 +199,38 @@ impl Bank {
                 .exchange(place, number as usize, Some(block)),
         );
         self.table.shared.fetch_or::<Restore>(place, word, bit);
+    }
+
+    // Gives up a seat, and looks what the other then knows.
+    pub(crate) fn unite(&self, place: &mut Place, given: Place)
+        requires bank { (place.old.table_id ≡ self.now.table) × (given.table_id ≡ self.now.table) }
+        requires idle { Idle place.old.me × Idle given.me }
+        ensures same { place.new.table_id ≡ place.old.table_id }
+        ensures both { place.new.me ≡ (merged place.old.me.0 given.me.0, place.old.me.1) }
+        ensures seen { Extends place.old.me.0.gives place.new.me.0.gives × Extends given.me.0.gives place.new.me.0.gives }
+    {
+        let _ = &self.shape;
+        self.table.shared.join_seat::<Unite>(place, given);
+        self.table.shared.load::<Settle>(place, 1);
+    }
+
+    // Shows two frames' own seats to be of different frames, by a token that goes to and fro. Both seats stay as they were.
+    pub(crate) fn tell_apart(&self, one: &mut Place, number: u32, other: &mut Place)
+        requires bank { (one.old.table_id ≡ self.now.table) × (other.old.table_id ≡ self.now.table) }
+        requires has { one.old.me.0.has ≡ suc number }
+        requires rest { Rests one.old.me.0 × Rests other.old.me.0 }
+        requires bare { (one.old.me.1 ≡ []) × (other.old.me.1 ≡ []) }
+        ensures bank { (one.new.table_id ≡ one.old.table_id) × (other.new.table_id ≡ other.old.table_id) }
+        ensures same { (one.new.me ≡ one.old.me) × (other.new.me ≡ other.old.me) }
+        ensures apart { other.old.me.0.has ≢ suc number }
+    {
+        let _ = &self.shape;
+        let _ = number;
+        let token = self.table.shared.split_seat::<Lend>(one);
+        self.table.shared.join_seat::<Show>(other, token);
+        self.table.shared.load::<Tell>(other, 1);
+        let back = self.table.shared.split_seat::<Hide>(other);
+        self.table.shared.join_seat::<Repay>(one, back);
     }
 
     // Looks at each word once, and counts the frames that it has at home.

@@ -1,7 +1,7 @@
 //! The rule of a bank's table, and what each kind of step on it tells.
 //! Word 2 i is the part of the bitmap of home frames that has the frames from 64 i on, and word 2 i + 1 the same part
 //! of the bitmap of empty slots. Bits from the number of frames on are left alone.
-ghost use Rattle.up_bank.specs.Plays.{looked, cleared, vacated, reclaimed, restored, shed, framed, parted, second, united, merged, spent};
+ghost use Rattle.up_bank.specs.Plays.{looked, cleared, vacated, reclaimed, restored, shed, framed, parted, second, united, merged, spent, settled, told_apart, lends, lent_out, shown, hidden, taken_back, repaid};
 
 use crate::block::Block;
 use crate::kind::FrameKind;
@@ -97,6 +97,56 @@ pub struct Unite;
 
 impl Join<View> for Unite {
     ghost both = { merged };
+
+    ghost spent = { spent };
+}
+
+/// A load after a join.
+pub struct Settle;
+
+impl Play<Option<Block>, View> for Settle {
+    ghost then = { settled };
+}
+
+/// A frame's seat gives out a token of its frame.
+pub struct Lend;
+
+impl Split<View> for Lend {
+    ghost left = { lends };
+
+    ghost right = { lent_out };
+}
+
+/// Another frame's seat takes the token.
+pub struct Show;
+
+impl Join<View> for Show {
+    ghost both = { shown };
+
+    ghost spent = { spent };
+}
+
+/// A load with the token in hand.
+pub struct Tell;
+
+impl Play<Option<Block>, View> for Tell {
+    ghost then = { told_apart };
+}
+
+/// The token is given away again.
+pub struct Hide;
+
+impl Split<View> for Hide {
+    ghost left = { hidden };
+
+    ghost right = { taken_back };
+}
+
+/// The token comes back to the seat that lent it.
+pub struct Repay;
+
+impl Join<View> for Repay {
+    ghost both = { repaid };
 
     ghost spent = { spent };
 }

@@ -1,4 +1,4 @@
-ghost use Rattle.std.specs.Prelude.{◌≡◌, ◌<◌, ◌≤◌, [], All};
+ghost use Rattle.std.specs.Prelude.{◌≡◌, ◌≢◌, ◌<◌, ◌≤◌, [], All};
 ghost use Rattle.up_bank.specs.Standing.{most_frames};
 
 use crate::{Bank, BankSeat, Frame, FrameKind, Memory};
@@ -91,6 +91,33 @@ fn same_bytes(frame: &Frame, set: Snapshot<Frame>) -> bool
 {
     let _ = set;
     &frame.bytes()[7..11] == b"mark".as_slice() && frame.bytes()[11] == 0
+}
+
+// Two frames at hand, which two seats claimed, have different numbers: the contracts tell it.
+#[test]
+fn frames_at_hand_are_told_apart(rt: HostRuntime) -> Result<(), Fail> {
+    let (bank, mut first) = Bank::new(rt.alloc(), FrameKind::Ordinary, 2)?;
+    let mut second = bank.split(&mut first);
+    let mut apart = false;
+    if let Ok(mut one) = bank.claim(&mut first) {
+        if let Ok(mut other) = bank.claim(&mut second) {
+            bank.apart(&mut one, &mut other);
+            apart = are_different(&one, &other);
+            bank.give(&mut first, other);
+        }
+        bank.give(&mut second, one);
+    }
+    bank.join(&mut first, second);
+    assert!(rt; apart);
+    assert_eq!(rt; bank.free(&mut first), 2);
+    Ok(())
+}
+
+// Asks for what its caller proves, and looks too.
+fn are_different(one: &Frame, other: &Frame) -> bool
+    requires { one.now.number ≢ other.now.number }
+{
+    one.number() != other.number()
 }
 
 // Claims until there is no frame or no room.

@@ -23,6 +23,13 @@ pub struct View {
     pub ghost finds: { List Find },
     /// The returns of frames that it knows of, the newest first.
     pub ghost gives: { List Given },
+    /// The returns that the two seats knew of that were last made one with this.
+    pub ghost one: { List Given },
+    pub ghost other: { List Given },
+    /// A frame's own seat, of whose frame another seat has a token.
+    pub ghost lent: { Bool },
+    /// 0, or one more than the number of a frame that another seat has and lent.
+    pub ghost token: { ℕ },
 }
 
 impl Model for View {

@@ -1,6 +1,6 @@
 -- A turn's beginning and its end.
-use Rattle.std.proofs.Common.{◌≡◌, ◌≢◌, ℕ, zero, suc, ◌+◌, ◌*◌, ◌<◌, ◌≤◌, ◌⊎◌, Bool, true, false, cond, eqb, List, [], ◌∷◌, ◌++◌, length, sym, refl, ap, ◌∙◌, subst, inl, inr, ⊎_elim, arith, eq-eqb, ne_eqb, eqb-true, true≢false, Option, Some, IsPermutation, IsSome, rules}
-use Rattle.std.proofs.lemmas.List.Sorted.{IsPermutation-refl, IsPermutation-sym, IsPermutation-cons, IsPermutation-trans, IsPermutation-middle}
+use Rattle.std.proofs.Common.{◌≡◌, ◌≢◌, ℕ, zero, suc, ◌+◌, ◌*◌, ◌<◌, ◌≤◌, ◌⊎◌, Bool, true, false, cond, eqb, List, [], ◌∷◌, ◌++◌, length, sym, refl, ap, ◌∙◌, subst, inl, inr, ⊎_elim, arith, eq-eqb, ne_eqb, eqb-true, true≢false, Option, Some, IsPermutation, IsSome, rules, length-append}
+use Rattle.std.proofs.lemmas.List.Sorted.{length_permutation, IsPermutation-refl, IsPermutation-sym, IsPermutation-cons, IsPermutation-trans, IsPermutation-middle}
 use mathlib.Core.Option as maybe
 use mathlib.Core.Option.{some, some-injective, some-ne-none}
 use mathlib.Core.Logic.{dite}
@@ -48,8 +48,8 @@ same_entries [] [] all = IsPermutation-refl []
 same_entries [] (y ∷ ys) all = absurd (let wrong : 0 ≡ suc (length (by y.entry.who ys)) = ap length (all y.entry.who ∙ by_take y.entry.who y ys refl) in omega arith)
 same_entries (x ∷ xs) ys all = let who : ℕ = x.entry.who in let h = first_at ys x (by who xs) who refl (sym (all who) ∙ by_take who x xs refl) in
     let fewer : (n : ℕ) → by n xs ≡ by n (h.before ++ h.after) = (λ n. dite (ℕ_discrete who n)
-      (λ (same : who ≡ n). subst (λ (k : ℕ). by k xs ≡ by k (h.before ++ h.after)) same (sym (by_append who h.before h.after ∙ (ap (λ (l : List Placed). l ++ by who h.after) h.none ∙ h.rest))))
-      (λ (other : who ≢ n). sym (by_skip n x xs other) ∙ (all n ∙ (ap (by n) h.is ∙ (by_append n h.before (x ∷ h.after) ∙ (ap (λ (l : List Placed). by n h.before ++ l) (by_skip n x h.after other) ∙ sym (by_append n h.before h.after))))))) in
+    (λ (same : who ≡ n). subst (λ (k : ℕ). by k xs ≡ by k (h.before ++ h.after)) same (sym (by_append who h.before h.after ∙ (ap (λ (l : List Placed). l ++ by who h.after) h.none ∙ h.rest))))
+    (λ (other : who ≢ n). sym (by_skip n x xs other) ∙ (all n ∙ (ap (by n) h.is ∙ (by_append n h.before (x ∷ h.after) ∙ (ap (λ (l : List Placed). by n h.before ++ l) (by_skip n x h.after other) ∙ sym (by_append n h.before h.after))))))) in
     IsPermutation-trans (x ∷ xs) (x ∷ (h.before ++ h.after)) ys (IsPermutation-cons x xs (h.before ++ h.after) (same_entries xs (h.before ++ h.after) fewer))
     (subst (IsPermutation (x ∷ (h.before ++ h.after))) (sym h.is) (IsPermutation-sym (h.before ++ x ∷ h.after) (x ∷ (h.before ++ h.after)) (IsPermutation-middle h.before x h.after)))
 
@@ -73,6 +73,7 @@ opens {S} kin list actors value empty fits = record {
   only : (j : ℕ) (u : View) → get_elem? (newcomer actors ∷ []) j ≡ some u → (j ≡ 0) × (newcomer actors ≡ u)
   only zero u e = (refl, some-injective (newcomer actors) u e)
   only (suc j) u e = absurd (some-ne-none u (sym e))
+
   mine : Fits [] 0 0 0 actors (λ _. 0) 0 (newcomer actors)
   mine = record {
     seen = begins_none [];
@@ -123,7 +124,7 @@ module _ {S : Type 0} (kin : S → Type 0) (list : S → List Entry) (actors id 
   seen_by_everybody : (n : ℕ) → by n (placed 0 v.seen) ≡ by n (placed 0 r.log)
   seen_by_everybody n = ⊎_elim (λ (it : has v.numbers n ≡ true). sym (f.tally.mine n it) ∙ (f.mine n it).all)
       (λ (it : has v.numbers n ≡ false). dite (dec_lt n actors) (λ (low : n < actors). absurd (not_both (all n low) it))
-          (λ not_low. let high : actors ≤ n = omega arith in let none = r.known n high in none_before n v.seen r.log f.seen none ∙ sym none))
+      (λ not_low. let high : actors ≤ n = omega arith in let none = r.known n high in none_before n v.seen r.log f.seen none ∙ sym none))
       (two (has v.numbers n))
 
   pub closes : Closes kin list v xs
@@ -152,3 +153,17 @@ slot_has kin list v xs e o found = some-injective (Some e.value) o (sym e.there 
 pub comes_out : {S : Type 0} (kin : S → Type 0) (list : S → List Entry) (v : View) (xs : List (Option S)) (e : Closes kin list v xs) (o : Option S) → get_elem? xs 0 ≡ some o → (x : S) → o ≡ Some x → Out kin list v x
 comes_out {S} kin list v xs e o found x is = let both : Some e.value ≡ Some x = slot_has kin list v xs e o found ∙ is in let same : e.value ≡ x = cc in
     subst (Out kin list v) same record { fits = e.fits; is = e.is; own = e.own; each_once = e.each_once }
+
+pub length_placed : (from : ℕ) (xs : List Entry) → length (placed from xs) ≡ length xs
+length_placed from [] = refl
+length_placed from (x ∷ xs) = ap suc (length_placed (from + 1) xs)
+
+-- a list whose entries are two passes' own, of one entry each
+pub two_entries : (log : List Entry) (own a b a0 b0 : List Placed) (p q : Placed) → IsPermutation own (placed 0 log) → own ≡ a ++ b → a ≡ a0 ++ p ∷ [] → b ≡ b0 ++ q ∷ [] → a0 ≡ [] → b0 ≡ [] → length log ≡ 2
+two_entries log own a b a0 b0 p q all is one other none nothing =
+    let long : length (placed 0 log) ≡ length own = length_permutation own (placed 0 log) all in
+    let both : length own ≡ length a + length b = ap length is ∙ length-append a b in
+    let first : length a ≡ length a0 + 1 = ap length one ∙ length-append a0 (p ∷ []) in
+    let second : length b ≡ length b0 + 1 = ap length other ∙ length-append b0 (q ∷ []) in
+    let empty : length a0 ≡ 0 = ap length none in let bare : length b0 ≡ 0 = ap length nothing in
+    let as_long : length (placed 0 log) ≡ length log = length_placed 0 log in omega arith

@@ -129,14 +129,17 @@ enters {S} kin0 kin list actors slots id old v even counts lift s r _ at _ = let
       takes 0 (Some h.value),
       h.there,
       let_in kin0 list actors s r id v at h counts free (old + 1) odd,
-      ((λ _. record {
-        value = h.value;
-        fits = lift h.value h.fits;
-        later = subst (Begins v.seen) (sym h.is) f.seen;
-        tally = subst (Tally v.numbers v.own) (sym h.is) (whole_tally r.log r.held r.holder r.root actors r.owner id v f);
-        finds = let same = ap length h.is in λ i d l. (let low = f.found i d l in omega arith);
-        is = refl;
-      }), (λ (other : n ≢ old). absurd (other hit))),
+      (
+        (λ _. record {
+          value = h.value;
+          fits = lift h.value h.fits;
+          later = subst (Begins v.seen) (sym h.is) f.seen;
+          tally = subst (Tally v.numbers v.own) (sym h.is) (whole_tally r.log r.held r.holder r.root actors r.owner id v f);
+          finds = let same = ap length h.is in λ i d l. (let low = f.found i d l in omega arith);
+          is = refl;
+        }),
+        (λ (other : n ≢ old). absurd (other hit)),
+      ),
     ))
     (λ (miss : n ≢ old). (
       v,
@@ -184,12 +187,15 @@ in_hand {S} kin list m m' m'' e bare x was is =
     let both : (0, Some e.value) ∷ m.1 ≡ (0, x) ∷ rest m'.1 = sym taken ∙ was in
     let same : Some e.value ≡ x = ap (λ (xs : List (ℕ × Option S)). (get_or xs 0 (0, x)).1) both in
     let left_over : rest m'.1 ≡ [] = ap rest taken ∙ bare in
-    subst (λ (o : Option S). MatchOption o (m'' ≡ m) (λ y. kin y × InHand list m.0 m'' y)) same (e.fits, record {
-      later = e.later;
-      tally = e.tally;
-      finds = e.finds;
-      is = is ∙ ap₂ (λ (w : View) (cs : List (ℕ × Option S)). (w, (0, None) ∷ cs)) (ap (λ (z : Me (Option S) View). z.0) e.is) left_over;
-    })
+    subst (λ (o : Option S). MatchOption o (m'' ≡ m) (λ y. kin y × InHand list m.0 m'' y)) same (
+      e.fits,
+      record {
+        later = e.later;
+        tally = e.tally;
+        finds = e.finds;
+        is = is ∙ ap₂ (λ (w : View) (cs : List (ℕ × Option S)). (w, (0, None) ∷ cs)) (ap (λ (z : Me (Option S) View). z.0) e.is) left_over;
+      },
+    )
 
 pub joined_counts : (a b : Bool) (ms ns : List ℕ) → Counts a ms → Counts (cond a true b) (ms ++ ns)
 joined_counts a b ms ns c = ⊎_elim (λ (h : a ≡ true). inl (ap (λ (x : Bool). cond x true b) h)) (λ (t : (n : ℕ) × (has ms n ≡ true)). inr (t.0, has_append ms ns t.0 ∙ ap (λ (x : Bool). cond x true (has ns t.0)) t.1)) c

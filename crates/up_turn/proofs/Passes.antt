@@ -110,10 +110,10 @@ module _ {S : Type 0} (kin : S → Type 0) (list : S → List Entry) (actors id 
     known = r.known;
     each = λ j u there. ⊎_elim
         (λ (t : get_elem? kept j ≡ some u). ⊎_elim
-            (λ (p : (j ≡ id) × (lacks who v ≡ u)). subst (λ (z : ℕ × View). Fits r.log r.held r.holder r.root actors owners z.0 z.1) (λ i. (sym p.0 i, p.1 i)) left_fits)
-            (λ (p : (j ≢ id) × (get_elem? s.views j ≡ some u)). else_fits j u p.0 p.1) (at_set s.views id j (lacks who v) u t))
+        (λ (p : (j ≡ id) × (lacks who v ≡ u)). subst (λ (z : ℕ × View). Fits r.log r.held r.holder r.root actors owners z.0 z.1) (λ i. (sym p.0 i, p.1 i)) left_fits)
+        (λ (p : (j ≢ id) × (get_elem? s.views j ≡ some u)). else_fits j u p.0 p.1) (at_set s.views id j (lacks who v) u t))
         (λ (t : (j ≡ length kept) × (only who v ≡ u)). let where_is : new ≡ j = sym (t.0 ∙ length-set s.views id (lacks who v)) in
-            subst (λ (z : ℕ × View). Fits r.log r.held r.holder r.root actors owners z.0 z.1) (λ i. (where_is i, t.1 i)) new_fits)
+        subst (λ (z : ℕ × View). Fits r.log r.held r.holder r.root actors owners z.0 z.1) (λ i. (where_is i, t.1 i)) new_fits)
         (at_end kept (only who v) u j there);
   }
 
@@ -233,7 +233,7 @@ module _ {S : Type 0} (kin : S → Type 0) (list : S → List Entry) (actors id 
     slots = r.slots;
     free = r.free;
     busy = λ taken. let h = r.busy taken in let far : r.holder ≢ other = (λ (e : r.holder ≡ other). let same : some h.view ≡ some w = sym h.there ∙ (ap (get_elem? s.views) e ∙ there) in
-      not_both h.inside (ap (λ (x : View). x.inside) (some-injective h.view w same) ∙ outside)) in dite (ℕ_discrete r.holder id)
+        not_both h.inside (ap (λ (x : View). x.inside) (some-injective h.view w same) ∙ outside)) in dite (ℕ_discrete r.holder id)
         (λ (me : r.holder ≡ id). let same : some h.view ≡ some v = sym h.there ∙ (ap (get_elem? s.views) me ∙ at) in record {
           view = both;
           there = set_else once other r.holder spent far ∙ (ap (get_elem? once) me ∙ set_here s.views id both (within s.views id v at));
@@ -244,8 +244,8 @@ module _ {S : Type 0} (kin : S → Type 0) (list : S → List Entry) (actors id 
     each = λ j u here. ⊎_elim
         (λ (t : (j ≡ other) × (spent ≡ u)). subst (Fits r.log r.held r.holder first_now actors heirs j) t.1 (blank_fits r.log r.held r.holder first_now actors heirs j))
         (λ (t : (j ≢ other) × (get_elem? once j ≡ some u)). ⊎_elim
-            (λ (p : (j ≡ id) × (both ≡ u)). subst (λ (z : ℕ × View). Fits r.log r.held r.holder first_now actors heirs z.0 z.1) (λ i. (sym p.0 i, p.1 i)) both_fits)
-            (λ (p : (j ≢ id) × (get_elem? s.views j ≡ some u)). rest_fits j u t.0 p.1) (at_set s.views id j both u t.1))
+        (λ (p : (j ≡ id) × (both ≡ u)). subst (λ (z : ℕ × View). Fits r.log r.held r.holder first_now actors heirs z.0 z.1) (λ i. (sym p.0 i, p.1 i)) both_fits)
+        (λ (p : (j ≢ id) × (get_elem? s.views j ≡ some u)). rest_fits j u t.0 p.1) (at_set s.views id j both u t.1))
         (at_set once other j spent u here);
   }
 

@@ -77,7 +77,7 @@ between n xs ys zs a b same =
     let far : by n (placed 0 zs) ≡ by n (placed 0 ys) ++ by n (placed (length ys) b.more) = ap (λ (l : List Entry). by n (placed 0 l)) b.is ∙ by_more n ys b.more in
     let near : by n (placed 0 ys) ≡ by n (placed 0 xs) ++ by n (placed (length xs) a.more) = ap (λ (l : List Entry). by n (placed 0 l)) a.is ∙ by_more n xs a.more in
     let all : by n (placed 0 xs) ≡ by n (placed 0 xs) ++ (by n (placed (length xs) a.more) ++ by n (placed (length ys) b.more)) =
-        same ∙ (far ∙ (ap (λ (l : List Placed). l ++ by n (placed (length ys) b.more)) near ∙ append_assoc (by n (placed 0 xs)) (by n (placed (length xs) a.more)) (by n (placed (length ys) b.more)))) in
+    same ∙ (far ∙ (ap (λ (l : List Placed). l ++ by n (placed (length ys) b.more)) near ∙ append_assoc (by n (placed 0 xs)) (by n (placed (length xs) a.more)) (by n (placed (length ys) b.more)))) in
     let none = append_both (by n (placed (length xs) a.more)) (by n (placed (length ys) b.more)) (append_none (by n (placed 0 xs)) (by n (placed (length xs) a.more) ++ by n (placed (length ys) b.more)) all) in
     sym (far ∙ (ap (λ (l : List Placed). by n (placed 0 ys) ++ l) none.1 ∙ append-nil (by n (placed 0 ys))))
 
@@ -110,11 +110,11 @@ pub record IsLonger (a b log : List Entry) : Type 0 where
 pub longer_of : (a b log : List Entry) → Begins a log → Begins b log → IsLonger a b log
 longer_of a b log x y = dite (dec_lt (length a) (length b))
     (λ (low : length a < length b). let is : longer a b ≡ b = ap (λ (t : Bool). cond t b a) (lt-ltb (length a) (length b) low) in
-      subst (λ (l : List Entry). Begins a l × Begins b l × Begins l log → IsLonger a b log) is
-      (λ h. record { one = h.0; other = h.1; both = h.2 }) (one_begins a b log x y (omega arith), begins_same b, y))
+    subst (λ (l : List Entry). Begins a l × Begins b l × Begins l log → IsLonger a b log) is
+    (λ h. record { one = h.0; other = h.1; both = h.2 }) (one_begins a b log x y (omega arith), begins_same b, y))
     (λ not_low. let low : length b ≤ length a = omega arith in let is : longer a b ≡ a = ap (λ (t : Bool). cond t b a) (le-ltb (length a) (length b) low) in
-      subst (λ (l : List Entry). Begins a l × Begins b l × Begins l log → IsLonger a b log) is
-      (λ h. record { one = h.0; other = h.1; both = h.2 }) (begins_same a, one_begins b a log y x low, x))
+    subst (λ (l : List Entry). Begins a l × Begins b l × Begins l log → IsLonger a b log) is
+    (λ h. record { one = h.0; other = h.1; both = h.2 }) (begins_same a, one_begins b a log y x low, x))
 
 pub longer_first : (a b : List Entry) → length b ≤ length a → longer a b ≡ a
 longer_first a b low = ap (λ (t : Bool). cond t b a) (le-ltb (length a) (length b) low)

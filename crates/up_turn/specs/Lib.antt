@@ -3,3 +3,4 @@ pub mod Standing
 pub mod Turned
 pub mod Plays
 pub mod Laws
+pub mod Added

@@ -6,7 +6,10 @@ mod chronicle;
 pub mod laws;
 mod pass;
 mod rule;
+pub mod sheet;
 mod steps;
+#[cfg(test)]
+mod tests;
 mod turn;
 mod view;
 

@@ -13,6 +13,7 @@ use std::sync::Wait;
 use up_num::Memory;
 
 /// A value behind a lock, whose word tells how many entries it has.
+#[derive(Drop)]
 pub struct Turn<S: Chronicle> {
     pub(crate) table: Board<S>,
 }
@@ -36,11 +37,7 @@ impl<S: Chronicle> Model for Turn<S> {
 
 impl<S: Chronicle> Turn<S> {
     /// A turn with this value, for the actors whose numbers are below `actors`, and its first pass, which holds all these.
-    pub fn new(
-        alloc: Global,
-        state: S,
-        actors: u32,
-    ) -> Result<(Turn<S>, Pass<S>), (Memory, S)>
+    pub fn new(alloc: Global, state: S, actors: u32) -> Result<(Turn<S>, Pass<S>), (Memory, S)>
         requires empty { S.list state ≡ [] }
         ensures turn { IfOk result (λ made. (made.0.opening ≡ state) × (made.0.actors ≡ actors)) }
         ensures pass { IfOk result (λ made. made.1 ≡ first_pass made.0.table actors) }
@@ -75,6 +72,7 @@ impl<S: Chronicle> Turn<S> {
         requires held { held.turn.value ≡ self.now }
         requires origin { S.origin held.state ≡ S.origin self.now.opening }
         requires goes_on { GoesOn pass.old.numbers pass.old.seen (S.list held.state) }
+        ensures later { Begins pass.old.seen pass.new.seen }
         ensures pass { pass.new ≡ came_out pass.old (S.list held.state) }
         ensures own { Tally pass.new.numbers pass.new.own (S.list held.state) }
     {

@@ -7,7 +7,7 @@ use Rattle.up_bank.proofs.bank.Bank.give_at.Goals as goal
 
 pub join_seat-requires : goal.join_seat-requires
 join_seat-requires c = let z : Sized c.self.inside.table.shared.key c.self.inside.table.shared.table_id c.args.self.now = sized _ _ _ _ c.self.view_is c.self.invariant in
-    (search rules, search rules, search rules, omega arith, regains _ _ _ _ _ c.requires.idle.acts c.requires.idle.has)
+    (search rules, search rules, search rules, omega arith, regains _ _ _ _ _ c.requires.idle.acts c.requires.idle.has c.requires.own.3.lent)
 
 pub fetch_and-requires : goal.fetch_and-requires
 fetch_and-requires c = let z : Sized c.self.inside.table.shared.key c.self.inside.table.shared.table_id c.args.self.now = sized _ _ _ _ c.self.view_is c.self.invariant in

@@ -1,8 +1,0 @@
-use Rattle.std.proofs.Common.{rules, arith}
-use Rattle.up_bank.proofs.Sizes.{Sized, sized}
-use Rattle.up_bank.proofs.Views.{unites}
-use Rattle.up_bank.proofs.bank.Bank.join.Goals as goal
-
-pub join_seat-requires : goal.join_seat-requires
-join_seat-requires c = let z : Sized c.self.inside.table.shared.key c.self.inside.table.shared.table_id c.args.self.now = sized _ _ _ _ c.self.view_is c.self.invariant in
-    let idle = c.seat.invariant.0 in (search rules, search rules, c.other.invariant.0.bare, omega arith, unites _ _ _ _ _ idle.acts idle.has)
