@@ -1,16 +1,32 @@
-ghost use Rattle.std.specs.Prelude.{◌≡◌, ◌≤◌};
+ghost use Rattle.std.specs.Prelude.{◌≡◌};
 
 use up_outside::{Failed, Sink};
 
 /// How many bytes are kept: as many as the text of any fault has.
 const ROOM: usize = 32;
 
+/// The first bytes of some, as many as there is room for.
+#[derive(Drop)]
+struct Front {
+    bytes: [u8; ROOM],
+    count: usize,
+}
+
+impl Front {
+    fn push(&mut self, byte: u8) {
+        if self.count < ROOM {
+            self.bytes[self.count] = byte;
+            self.count += 1;
+        }
+    }
+}
+
 /// A sink that hands all bytes on to another one, and keeps the first ones that were taken, so that `main` can say in a sentence what
 /// the program wrote in two words.
+#[derive(Drop)]
 pub struct KeepingSink<K: Sink> {
     sink: K,
-    kept: [u8; ROOM],
-    count: usize,
+    front: Front,
 }
 
 impl<K: Sink> KeepingSink<K> {
@@ -19,25 +35,16 @@ impl<K: Sink> KeepingSink<K> {
     {
         KeepingSink {
             sink,
-            kept: [0; ROOM],
-            count: 0,
+            front: Front {
+                bytes: [0; ROOM],
+                count: 0,
+            },
         }
     }
 
     /// The first bytes that were taken.
     pub fn kept(&self) -> &[u8] {
-        &self.kept[..self.count.min(ROOM)]
-    }
-
-    fn keep(&mut self, bytes: &[u8])
-        ensures { self.new.sink ≡ self.old.sink }
-    {
-        for byte in bytes {
-            if self.count < ROOM {
-                self.kept[self.count] = *byte;
-                self.count += 1;
-            }
-        }
+        &self.front.bytes[..self.front.count.min(ROOM)]
     }
 }
 
@@ -48,7 +55,13 @@ impl<K: Sink> Sink for KeepingSink<K> {
 
     fn push(&mut self, bytes: &[u8]) -> Result<usize, Failed> {
         let count = self.sink.push(bytes)?;
-        self.keep(&bytes[..count]);
+        keep(&mut self.front, &bytes[..count]);
         Ok(count)
+    }
+}
+
+fn keep(front: &mut Front, bytes: &[u8]) {
+    for byte in bytes {
+        front.push(*byte);
     }
 }
