@@ -57,6 +57,11 @@ too_long : (limit : ℕ) (all bytes rest : List ℕ) → all ≡ bytes ++ rest �
 too_long limit all bytes rest is p =
     let sum : length all ≡ length bytes + length rest = ap length is ∙ length-append bytes rest in grind (arith, nat_tests)
 
+-- what was read within the limit is all that the source had
+read_whole : (limit : ℕ) (all : List ℕ) (now : Option (List ℕ)) (bytes : List ℕ) → nat_le (length bytes) limit ≡ true → WasRead limit (Some all) now bytes → bytes ≡ all
+read_whole limit all None bytes fits r = absurd r.given
+read_whole limit all (Some rest) bytes fits r = sym (r.given ∙ ap (λ (xs : List ℕ). bytes ++ xs) (r.whole (le_from limit bytes fits)) ∙ append-nil bytes)
+
 -- what was read of bytes that fit the limit is these bytes
 all_read : (limit : ℕ) (all : List ℕ) (now : Option (List ℕ)) (bytes : List ℕ) → nat_le (length all) limit ≡ true → WasRead limit (Some all) now bytes → bytes ≡ all
 all_read limit all None bytes fits r = absurd r.given
@@ -162,3 +167,49 @@ ends_illegal Unread written words unread source sink = absurd (unread refl)
 ends_illegal Source written words unread source sink = absurd (source refl)
 ends_illegal Sink written words unread source sink = absurd (sink refl)
 ends_illegal Memory written words unread source sink = inr refl
+
+-- what was read and spells something is what the source had
+spells_left : (limit : ℕ) (left now : Option (List ℕ)) (all bytes : List ℕ) → left ≡ Some all → nat_le (length bytes) limit ≡ true → WasRead limit left now bytes → left ≡ Some bytes
+spells_left limit left now all bytes told fits r =
+    told ∙ ap (λ (b : List ℕ). Some b) (sym (read_whole limit all now bytes fits (subst (λ left. WasRead limit left now bytes) told r)))
+
+-- of a source that tells no script that is done today no journals were told
+pub no_script_done : (words : List (List ℕ)) (left now before after : Option (List ℕ)) (all : List ℕ) → IsStep words → left ≡ Some all → (IsScript left → ⊥) →
+    Took whole_journals words left now before after ⊎ Took legal_journals words left now before after → ⊥
+no_script_done words left now before after all step told other (inl t) =
+    let made = t.is.1 in
+    let spelled = made.is.spelled in
+    other (record {
+      bytes = made.bytes;
+      script = made.is.script;
+      told = spells_left longest_script left now all made.bytes told (script_fits made.bytes made.is.script spelled) made.read;
+      spelled = spelled;
+      built = made.is.built;
+    })
+no_script_done words left now before after all step told other (inr t) = two_commands words step t.is.0
+
+-- of a source that tells no journals it wasn't told that they are legal
+pub no_journals_legal : (words : List (List ℕ)) (left now before after : Option (List ℕ)) (all : List ℕ) → IsCheck words → left ≡ Some all → ((journals : List Named) → HasJournals left journals → ⊥) →
+    Took whole_journals words left now before after ⊎ Took legal_journals words left now before after → ⊥
+no_journals_legal words left now before after all check told other (inl t) = two_commands words t.is.0 check
+no_journals_legal words left now before after all check told other (inr t) =
+    let made = t.is.1 in
+    other made.is.journals (record { bytes = made.bytes; told = spells_left longest_text left now all made.bytes told (journals_fit made.bytes made.is.journals made.is.spelled) made.read; spelled = made.is.spelled })
+
+-- nor was an entry at fault told
+pub no_journals_illegal : (words : List (List ℕ)) (left now before after : Option (List ℕ)) (all : List ℕ) → left ≡ Some all → ((journals : List Named) → HasJournals left journals → ⊥) →
+    Took illegal_journals words left now before after → ⊥
+no_journals_illegal words left now before after all told other t =
+    let made = t.is.1 in
+    other made.is.journals (record { bytes = made.bytes; told = spells_left longest_text left now all made.bytes told (journals_fit made.bytes made.is.journals made.is.spelled) made.read; spelled = made.is.spelled })
+
+-- where nothing else is left, a fault was told or memory ran out
+pub ends_unread : (ended : Ended) → (ended ≡ Written → ⊥) → (ended ≡ Illegal → ⊥) → (ended ≡ Words → ⊥) → (ended ≡ Source → ⊥) → (ended ≡ Sink → ⊥) →
+    (status_of ended ≡ 3) ⊎ (status_of ended ≡ 7)
+ends_unread Written written illegal words source sink = absurd (written refl)
+ends_unread Illegal written illegal words source sink = absurd (illegal refl)
+ends_unread Words written illegal words source sink = absurd (words refl)
+ends_unread Unread written illegal words source sink = inl refl
+ends_unread Source written illegal words source sink = absurd (source refl)
+ends_unread Sink written illegal words source sink = absurd (sink refl)
+ends_unread Memory written illegal words source sink = inr refl

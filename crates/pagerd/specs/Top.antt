@@ -1,5 +1,5 @@
 -- What the top call does at each status.
-use Rattle.std.specs.Prelude.{◌≡◌, ℕ, ◌≤◌, List, [], ◌∷◌, Option, Some, None, Ok, Err, length, codes}
+use Rattle.std.specs.Prelude.{◌≡◌, ℕ, ◌+◌, ◌≤◌, List, [], ◌∷◌, Option, Some, None, Ok, Err, length, codes}
 use Rattle.std.specs.Io.KnownBytes.{Appends, Consumes, IsAtEnd}
 use Rattle.up_outside.specs.Front.{AppendsFront}
 use Rattle.up_words.specs.declared.fault.Fault.{Fault}
@@ -91,10 +91,11 @@ IsCheck words = words ≡ codes "check" ∷ []
 abbrev pub longest_script : ℕ
 longest_script = 4194304
 
--- the source was read to its end, and gave these bytes. Of a text that is too long one byte more than the limit was read
+-- the source was read to its end, and gave these bytes. Of a text that is too long one byte more than the limit was read, and no more
 pub record WasRead (limit : ℕ) (left_before left_now : Option (List ℕ)) (bytes : List ℕ) : Type 0 where
   pub given : Consumes left_before left_now bytes
   pub whole : length bytes ≤ limit → IsAtEnd left_now
+  pub most : length bytes ≤ limit + 1
 
 -- the source was read, and its bytes have to do so with the text that is written
 pub record Makes (limit : ℕ) (Is : List ℕ → List ℕ → Type 0) (left_before left_now : Option (List ℕ)) (text : List ℕ) : Type 0 where

@@ -1,9 +1,6 @@
 ghost use Rattle.std.specs.Prelude.{◌≡◌, ◌++◌, IfOk, OnOk};
 ghost use Rattle.pagerd.specs.Text.{expected_text, fault_text, illegal_text, why_text};
 
-#[cfg(test)]
-mod tests;
-
 use itoa::Buffer;
 use std::alloc::Global;
 use up_model::Reply;

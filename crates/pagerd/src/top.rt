@@ -1,4 +1,4 @@
-ghost use Rattle.std.specs.Prelude.{◌≡◌, ◌≢◌, ◌↔◌, [], ◌∷◌, List, ℕ, map, string_bytes, IsTrue, IfOk, IfErr, ◌⊎◌, Contains};
+ghost use Rattle.std.specs.Prelude.{◌≡◌, ◌≢◌, ◌↔◌, [], ◌∷◌, List, ℕ, map, string_bytes, IsTrue, IfOk, IfErr, Some, ◌⊎◌, Contains};
 ghost use Rattle.up_outside.specs.Cause.{Rose};
 ghost use Rattle.up_text.specs.declared.journals.Named.{Named};
 ghost use Rattle.up_check.specs.Faults.{AreLegal};
@@ -56,6 +56,12 @@ pub fn alone<S: Source, K: Sink>(
         → (Rose (S.faults source.old) (S.faults source.new) → ⊥) → (Rose (K.faults sink.old) (K.faults sink.new) → ⊥) → (result ≡ 0) ⊎ (result ≡ 7) }
     ensures wrong { (journals : List Named) → IsCheck (map string_bytes words.now) → HasJournals (S.left source.old) journals → (AreLegal journals → ⊥)
         → (Rose (S.faults source.old) (S.faults source.new) → ⊥) → (Rose (K.faults sink.old) (K.faults sink.new) → ⊥) → (result ≡ 1) ⊎ (result ≡ 7) }
+
+    // And a text that isn't what the command reads is told to be that: at status 3 exactly.
+    ensures no_script { (bytes : List ℕ) → IsStep (map string_bytes words.now) → S.left source.old ≡ Some bytes → (IsScript (S.left source.old) → ⊥)
+        → (Rose (S.faults source.old) (S.faults source.new) → ⊥) → (Rose (K.faults sink.old) (K.faults sink.new) → ⊥) → (result ≡ 3) ⊎ (result ≡ 7) }
+    ensures no_journals { (bytes : List ℕ) → IsCheck (map string_bytes words.now) → S.left source.old ≡ Some bytes → ((journals : List Named) → HasJournals (S.left source.old) journals → ⊥)
+        → (Rose (S.faults source.old) (S.faults source.new) → ⊥) → (Rose (K.faults sink.old) (K.faults sink.new) → ⊥) → (result ≡ 3) ⊎ (result ≡ 7) }
     ensures listed { Contains (0 ∷ 1 ∷ 2 ∷ 3 ∷ 4 ∷ 5 ∷ 7 ∷ []) result }
 {
     status(run(alloc, words, source, sink))

@@ -7,8 +7,6 @@ mod plan;
 mod sink;
 mod source;
 mod stream;
-#[cfg(test)]
-mod tests;
 
 pub use in_memory::{MemSink, MemSource, PlainSource};
 pub use sink::{Sink, push_all};

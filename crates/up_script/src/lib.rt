@@ -18,6 +18,3 @@ pub use script::{
     Action, ActorLine, ActorLines, Kind, Line, Lines, Numbers, ObjectLine, ObjectLines, Script,
 };
 pub use up_words::{ReadFault, Why};
-
-#[cfg(test)]
-mod tests;

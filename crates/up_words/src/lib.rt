@@ -17,6 +17,3 @@ pub use names::spells_name;
 pub use numbers::{parse_number, read_between};
 pub use runs::{Run, Runs, TOO_MANY, read_bytes, read_runs, spread_runs};
 pub use words::{Words, front, parts, read_words};
-
-#[cfg(test)]
-mod tests;
