@@ -10,7 +10,7 @@ use Rattle.up_words.specs.Words.{is_word}
 use Rattle.up_words.specs.Numbers.{number_between}
 use Rattle.up_words.specs.declared.fault.Why.{Why}
 use Rattle.up_words.specs.declared.fault.Why.TheVariants as why
-use Rattle.up_words.proofs.Decimals.{then_ok, ok_is, both}
+use Rattle.up_words.proofs.Decimals.{then_ok, ok_is}
 use Rattle.up_fields.specs.Limits.{all_counts}
 use Rattle.up_calls.specs.Frames.{frames_text, is_frames, frame_count_in, frames_in, frames_lie}
 use Rattle.up_fields.proofs.Values.{bind_ok, either, same_word, number_again, number_takes, number_bytes, make_word}

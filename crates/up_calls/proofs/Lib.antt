@@ -1,3 +1,4 @@
 pub mod FrameForms
 pub mod CallForms
 pub mod CallBounds
+pub mod OneRow

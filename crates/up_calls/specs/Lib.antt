@@ -3,3 +3,4 @@ pub mod Frames
 pub mod Text
 pub mod Calls
 pub mod Allowed
+pub mod Laws

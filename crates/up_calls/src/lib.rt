@@ -4,6 +4,7 @@
 mod calls;
 mod frames;
 mod kinds;
+pub mod laws;
 mod put_calls;
 
 pub use calls::{SpelledCall, fill_call, find_call, read_call};

@@ -4,3 +4,4 @@ pub mod Listed
 pub mod Rows
 pub mod Sentences
 pub mod Bounds
+pub mod OneText

@@ -1,2 +1,3 @@
 pub mod ReplyForms
 pub mod ReplyBounds
+pub mod OneRow

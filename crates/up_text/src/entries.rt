@@ -5,9 +5,6 @@ ghost use Rattle.up_calls.specs.Calls.{call_kind};
 ghost use Rattle.up_replies.specs.Replies.{reply_kind};
 ghost use Rattle.up_text.specs.Reading.{entry_in, entry_line, entry_of, forms_in, spelled_bytes};
 
-#[cfg(test)]
-mod tests;
-
 use crate::journals::Named;
 use crate::stage::{Part, Stage};
 use std::alloc::Global;
