@@ -88,4 +88,3 @@ pub run_few : (kind : Option Bool) (xs new : List DirtyRange) (p place : ℕ) (r
     new ≡ cond (same_kind_of_page kind run.kind) xs (xs ++ map dirty_run (closed_kind p run.kind run.count)) → HasPages run.kind run.count →
     length xs + run.count ≤ place → length new + next.count ≤ place + 1
 run_few kind xs new p place run next is_next is_new has h = rw (is_new, is_next) (few_by (same_kind_of_page kind run.kind) kind xs p place run has h)
-
