@@ -3,7 +3,8 @@ use Rattle.std.proofs.Common.{◌≡◌, ◌<◌, ◌≤◌, ℕ, ◌+◌, ◌-�
 use Rattle.std.proofs.lemmas.List.{map-append}
 use Rattle.up_num.specs.declared.pages.DirtyRange.{DirtyRange}
 use Rattle.up_span.specs.Runs.{kind_runs, closed_kind, same_kind_of_page}
-use Rattle.up_pages.specs.Runs.{dirty_run, run_after, HasPages}
+use Rattle.up_pages.specs.Pages.{dirty_run}
+use Rattle.up_pages.specs.Runs.{run_after, HasPages}
 use Rattle.up_pages.specs.declared.runs.Run.{Run}
 
 next_place : (first place : ℕ) → first + place + 1 ≡ first + (place + 1)

@@ -1,8 +1,8 @@
 //! The maximal runs of unclean pages of one kind.
 ghost use Rattle.std.specs.Prelude.{◌≡◌, ◌+◌, ◌-◌, ◌++◌, ◌<◌, ◌≤◌, ◌^◌, cond, length, map, take, slice_index_or, IfOk, OnOk, None};
 ghost use Rattle.up_span.specs.Runs.{closed_kind, kind_runs, same_kind_of_page};
-ghost use Rattle.up_pages.specs.Pages.{unclean_kind};
-ghost use Rattle.up_pages.specs.Runs.{HasPages, run_after, dirty_run};
+ghost use Rattle.up_pages.specs.Pages.{unclean_kind, dirty_run};
+ghost use Rattle.up_pages.specs.Runs.{HasPages, run_after};
 
 use crate::Memory;
 use crate::page::Page;
