@@ -43,12 +43,12 @@ pub kinds_set : (kind : FrameKind) (xs ys : List Page) (i : ℕ) (y : Page) (bac
     ≡ count_pages (λ p. is_held_by kind (get_or xs p Absent)) 0 (length xs) + count_kind kind (option_to_list (frame_of y))
 kinds_set kind xs ys i y back within is given =
     let now : count_pages (λ p. is_held_by kind (get_or ys p Absent)) 0 (length ys) ≡ sum_by (λ x. one_where (is_held_by kind x)) (set xs i y)
-          = count_is (is_held_by kind) ys ∙ ap (sum_by (λ x. one_where (is_held_by kind x))) is in
+    = count_is (is_held_by kind) ys ∙ ap (sum_by (λ x. one_where (is_held_by kind x))) is in
     let before : count_pages (λ p. is_held_by kind (get_or xs p Absent)) 0 (length xs) ≡ sum_by (λ x. one_where (is_held_by kind x)) xs = count_is (is_held_by kind) xs in
     let out : count_kind kind (option_to_list back) ≡ one_where (is_held_by kind (get_or xs i Absent)) = ap (λ b. count_kind kind (option_to_list b)) given ∙ kind_of_one kind (get_or xs i Absent) in
     let put : count_kind kind (option_to_list (frame_of y)) ≡ one_where (is_held_by kind y) = kind_of_one kind y in
     let sums : sum_by (λ x. one_where (is_held_by kind x)) (set xs i y) + one_where (is_held_by kind (get_or xs i Absent)) ≡ sum_by (λ x. one_where (is_held_by kind x)) xs + one_where (is_held_by kind y)
-          = sum_by-set (λ x. one_where (is_held_by kind x)) xs i y Absent within in
+    = sum_by-set (λ x. one_where (is_held_by kind x)) xs i y Absent within in
     rw (now, out, before, put) sums
 
 -- one page more at the end of a range
@@ -71,10 +71,10 @@ down_counts kind page first (suc n) =
     let e : first + suc n ≡ suc (first + n) = omega arith in
     let zero_more : 0 + (first + n) ≡ first + n = omega arith in
     let last : count_pages (λ p. is_held_by kind (page p)) 0 (suc (first + n)) ≡ count_pages (λ p. is_held_by kind (page p)) 0 (first + n) + one_where (is_held_by kind (page (first + n)))
-          = count_last (λ p. is_held_by kind (page p)) 0 (first + n) ∙ ap (λ q. count_pages (λ p. is_held_by kind (page p)) 0 (first + n) + one_where (is_held_by kind (page q))) zero_more in
+    = count_last (λ p. is_held_by kind (page p)) 0 (first + n) ∙ ap (λ q. count_pages (λ p. is_held_by kind (page p)) 0 (first + n) + one_where (is_held_by kind (page q))) zero_more in
     let parts : count_kind kind (frames_down page first (suc n)) ≡ one_where (is_held_by kind (page (first + n))) + count_kind kind (frames_down page first n)
-          = sum_by-append (λ (frame : Frame). cond (same_kind kind frame.bank.kind) 1 0) (option_to_list (frame_of (page (first + n)))) (frames_down page first n)
-            ∙ ap (λ k. k + count_kind kind (frames_down page first n)) (kind_of_one kind (page (first + n))) in
+    = sum_by-append (λ (frame : Frame). cond (same_kind kind frame.bank.kind) 1 0) (option_to_list (frame_of (page (first + n)))) (frames_down page first n)
+    ∙ ap (λ k. k + count_kind kind (frames_down page first n)) (kind_of_one kind (page (first + n))) in
     let before : count_pages (λ p. is_held_by kind (page p)) 0 first + count_kind kind (frames_down page first n) ≡ count_pages (λ p. is_held_by kind (page p)) 0 (first + n) = down_counts kind page first n in
     rw (e, last, parts) (omega (arith, before))
 
@@ -134,8 +134,8 @@ cut_kinds kind xs ys first within is =
     let whole : first + (length xs - first) ≡ length xs = omega arith in
     let zero_more : (q : ℕ) → q < 0 + first → q < first = λ q below. omega arith in
     let kept : count_pages (λ p. is_held_by kind (get_or ys p Absent)) 0 first ≡ count_pages (λ p. is_held_by kind (get_or xs p Absent)) 0 first
-          = count_below (λ p. is_held_by kind (get_or ys p Absent)) (λ p. is_held_by kind (get_or xs p Absent)) 0 first
-            (λ q below. ap (is_held_by kind) (ap (λ l. get_or l q Absent) is ∙ get_or-take first xs q Absent (zero_more q below))) in
+    = count_below (λ p. is_held_by kind (get_or ys p Absent)) (λ p. is_held_by kind (get_or xs p Absent)) 0 first
+    (λ q below. ap (is_held_by kind) (ap (λ l. get_or l q Absent) is ∙ get_or-take first xs q Absent (zero_more q below))) in
     ap (λ n. count_pages (λ p. is_held_by kind (get_or ys p Absent)) 0 n + count_kind kind (frames_down (λ p. get_or xs p Absent) first (length xs - first))) long
     ∙ (ap (λ k. k + count_kind kind (frames_down (λ p. get_or xs p Absent) first (length xs - first))) kept
     ∙ (down_counts kind (λ p. get_or xs p Absent) first (length xs - first) ∙ ap (count_pages (λ p. is_held_by kind (get_or xs p Absent)) 0) whole))
@@ -145,7 +145,7 @@ pub all_kinds : (kind : FrameKind) (xs : List Page) → count_kind kind (frames_
 all_kinds kind xs =
     let whole : 0 + length xs ≡ length xs = omega arith in
     let sums : count_pages (λ p. is_held_by kind (get_or xs p Absent)) 0 0 + count_kind kind (frames_down (λ p. get_or xs p Absent) 0 (length xs)) ≡ count_pages (λ p. is_held_by kind (get_or xs p Absent)) 0 (0 + length xs)
-          = down_counts kind (λ p. get_or xs p Absent) 0 (length xs) in
+    = down_counts kind (λ p. get_or xs p Absent) 0 (length xs) in
     omega (arith, sums, ap (count_pages (λ p. is_held_by kind (get_or xs p Absent)) 0) whole)
 
 -- one frame more where the next page is held
@@ -161,9 +161,9 @@ held_next xs first place held one x from within is one_is held_is =
     let at : first + (place - first) ≡ place = omega arith in
     let next : place + 1 - first ≡ place - first + 1 = omega arith in
     let here : length (option_to_list (frame_of (get_or xs (first + (place - first)) Absent))) ≡ one
-          = ap (λ p. length (option_to_list (frame_of (get_or xs p Absent)))) at
-            ∙ (ap (λ y. length (option_to_list (frame_of y))) (sym (is ∙ get_or_default xs place x Absent within)) ∙ sym one_is) in
+    = ap (λ p. length (option_to_list (frame_of (get_or xs p Absent)))) at
+    ∙ (ap (λ y. length (option_to_list (frame_of y))) (sym (is ∙ get_or_default xs place x Absent within)) ∙ sym one_is) in
     let more : length (frames_down (λ p. get_or xs p Absent) first (place - first + 1)) ≡ length (frames_down (λ p. get_or xs p Absent) first (place - first)) + length (option_to_list (frame_of (get_or xs (first + (place - first)) Absent)))
-          = down_more (λ p. get_or xs p Absent) first (place - first) in
+    = down_more (λ p. get_or xs p Absent) first (place - first) in
     let few : length (frames_down (λ p. get_or xs p Absent) first (place - first + 1)) ≤ place - first + 1 = down_few (λ p. get_or xs p Absent) first (place - first + 1) in
     (rw next (omega (arith, more, here, held_is)), omega (arith, more, here, held_is, few))

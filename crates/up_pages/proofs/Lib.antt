@@ -2,3 +2,4 @@ pub mod Counting
 pub mod Places
 pub mod Taking
 pub mod OneMore
+pub mod Banked

@@ -3,7 +3,8 @@ use Rattle.std.proofs.Common.{◌≡◌, ◌<◌, ◌≤◌, ℕ, ◌+◌, ◌-�
 use Rattle.std.proofs.lemmas.List.{map-append}
 use Rattle.up_num.specs.declared.pages.DirtyRange.{DirtyRange}
 use Rattle.up_span.specs.Runs.{kind_runs, closed_kind, same_kind_of_page}
-use Rattle.up_pages.specs.Runs.{dirty_run, run_after, HasPages}
+use Rattle.up_pages.specs.Pages.{dirty_run}
+use Rattle.up_pages.specs.Runs.{run_after, HasPages}
 use Rattle.up_pages.specs.declared.runs.Run.{Run}
 
 next_place : (first place : ℕ) → first + place + 1 ≡ first + (place + 1)
@@ -88,4 +89,3 @@ pub run_few : (kind : Option Bool) (xs new : List DirtyRange) (p place : ℕ) (r
     new ≡ cond (same_kind_of_page kind run.kind) xs (xs ++ map dirty_run (closed_kind p run.kind run.count)) → HasPages run.kind run.count →
     length xs + run.count ≤ place → length new + next.count ≤ place + 1
 run_few kind xs new p place run next is_next is_new has h = rw (is_new, is_next) (few_by (same_kind_of_page kind run.kind) kind xs p place run has h)
-

@@ -17,7 +17,7 @@ pub record Taking (xs : List Page) (first : ℕ) (before : Stock) (pages : List 
 
 pub begun : (xs : List Page) (first : ℕ) (before : Stock) → first ≤ length xs
     → length before.items + length (frames_down (λ p. get_or xs p Absent) first (length xs - first)) ≤ before.room → Taking xs first before xs before
-begun xs first before some room = record { above = some; within = omega arith; rest = sym (take_all (length xs) xs (omega arith)); whole = refl; room = room; }
+begun xs first before some room = record { above = some; within = omega arith; rest = sym (take_all (length xs) xs (omega arith)); whole = refl; room = room }
 
 -- what the next step finds
 next_down : (xs : List Page) (first m : ℕ) → first ≤ m → frames_down (λ p. get_or xs p Absent) first (suc m - first) ≡ option_to_list (frame_of (get_or xs m Absent)) ++ frames_down (λ p. get_or xs p Absent) first (m - first)
@@ -38,19 +38,19 @@ taken xs first m before pages left frames after page d back t some long is page_
     let within' : suc m ≤ length xs = omega (arith, t.within) in
     let found : back ≡ frame_of (get_or xs m Absent) = back_is ∙ ap frame_of (page_is ∙ last_is xs pages m d long within' t.rest) in
     let down : frames_down (λ p. get_or xs p Absent) first (length pages - first) ≡ option_to_list back ++ frames_down (λ p. get_or xs p Absent) first (length left - first)
-          = ap (λ n. frames_down (λ p. get_or xs p Absent) first (n - first)) long ∙ (next_down xs first m (omega arith)
-            ∙ (ap (λ o. option_to_list o ++ frames_down (λ p. get_or xs p Absent) first (m - first)) (sym found)
-            ∙ ap (λ n. option_to_list back ++ frames_down (λ p. get_or xs p Absent) first (n - first)) (sym long'))) in
+    = ap (λ n. frames_down (λ p. get_or xs p Absent) first (n - first)) long ∙ (next_down xs first m (omega arith)
+    ∙ (ap (λ o. option_to_list o ++ frames_down (λ p. get_or xs p Absent) first (m - first)) (sym found)
+    ∙ ap (λ n. option_to_list back ++ frames_down (λ p. get_or xs p Absent) first (n - first)) (sym long'))) in
     let sums : length (frames_down (λ p. get_or xs p Absent) first (length pages - first)) ≡ length (option_to_list back) + length (frames_down (λ p. get_or xs p Absent) first (length left - first))
-          = ap length down ∙ length-append (option_to_list back) (frames_down (λ p. get_or xs p Absent) first (length left - first)) in
+    = ap length down ∙ length-append (option_to_list back) (frames_down (λ p. get_or xs p Absent) first (length left - first)) in
     let more : length after.items ≡ length frames.items + length (option_to_list back) = ap length put ∙ length-append frames.items (option_to_list back) in
     record {
       above = omega arith;
       within = omega (arith, t.within);
       rest = is ∙ (ap (take m) t.rest ∙ (take-take m (length pages) xs (omega arith) ∙ ap (λ n. take n xs) (sym long')));
       whole = ap (λ l. l ++ frames_down (λ p. get_or xs p Absent) first (length left - first)) put
-        ∙ (append_assoc frames.items (option_to_list back) (frames_down (λ p. get_or xs p Absent) first (length left - first))
-        ∙ (ap (λ l. frames.items ++ l) (sym down) ∙ t.whole));
+          ∙ (append_assoc frames.items (option_to_list back) (frames_down (λ p. get_or xs p Absent) first (length left - first))
+          ∙ (ap (λ l. frames.items ++ l) (sym down) ∙ t.whole));
       room = omega (arith, sums, more, room, t.room);
     }
 
@@ -62,8 +62,8 @@ room_for xs first m before pages frames page d back t some long page_is back_is 
     let within' : suc m ≤ length xs = omega (arith, t.within) in
     let found : back ≡ frame_of (get_or xs m Absent) = back_is ∙ ap frame_of (page_is ∙ last_is xs pages m d long within' t.rest) in
     let down : frames_down (λ p. get_or xs p Absent) first (length pages - first) ≡ option_to_list back ++ frames_down (λ p. get_or xs p Absent) first (m - first)
-          = ap (λ n. frames_down (λ p. get_or xs p Absent) first (n - first)) long ∙ (next_down xs first m (omega arith)
-            ∙ ap (λ o. option_to_list o ++ frames_down (λ p. get_or xs p Absent) first (m - first)) (sym found)) in
+    = ap (λ n. frames_down (λ p. get_or xs p Absent) first (n - first)) long ∙ (next_down xs first m (omega arith)
+    ∙ ap (λ o. option_to_list o ++ frames_down (λ p. get_or xs p Absent) first (m - first)) (sym found)) in
     let sums : length (frames_down (λ p. get_or xs p Absent) first (length pages - first)) ≡ length (option_to_list back) + length (frames_down (λ p. get_or xs p Absent) first (m - first))
-          = ap length down ∙ length-append (option_to_list back) (frames_down (λ p. get_or xs p Absent) first (m - first)) in
+    = ap length down ∙ length-append (option_to_list back) (frames_down (λ p. get_or xs p Absent) first (m - first)) in
     omega (arith, sums, t.room)

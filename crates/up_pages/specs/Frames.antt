@@ -1,5 +1,5 @@
 -- What contracts see of a list of frames that are out.
-use Rattle.std.specs.Prelude.{ℕ, Bool, true, false, List, count_by}
+use Rattle.std.specs.Prelude.{ℕ, Bool, true, false, List, [], ◌∷◌, count_by}
 use Rattle.up_bank.specs.Standing.{Held as Frame}
 use Rattle.up_bank.specs.declared.kind.FrameKind.{FrameKind}
 use Rattle.up_bank.specs.declared.kind.FrameKind.TheVariants.{Ordinary, Loaned}
@@ -13,6 +13,11 @@ abbrev pub same_kind : FrameKind → FrameKind → Bool
 same_kind Ordinary Ordinary = true
 same_kind Loaned Loaned = true
 same_kind _ _ = false
+
+-- each of the frames is so
+abbrev pub Each : (Frame → Type 0) → List Frame → Type 0
+Each P [] = Unit {0}
+Each P (frame ∷ rest) = P frame × Each P rest
 
 -- how many of the frames are of a kind
 abbrev pub count_kind : FrameKind → List Frame → ℕ

@@ -8,6 +8,7 @@ use Rattle.up_num.specs.declared.answers.PageState.TheVariants.{Clean, Dirty, Aw
 use Rattle.up_num.specs.declared.pages.DirtyRange.{DirtyRange}
 use Rattle.up_span.specs.Pages.{count_pages}
 use Rattle.up_span.specs.Runs.{kind_runs}
+use Rattle.up_span.specs.declared.run.KindRun.{KindRun}
 use Rattle.up_bank.specs.Bytes.{written}
 use Rattle.up_bank.specs.Standing.{Held as Frame}
 use Rattle.up_bank.specs.declared.kind.FrameKind.{FrameKind}
@@ -79,10 +80,14 @@ unclean_kind Absent = None
 unclean_kind (Zero state) = cond (same_state state Clean) None (Some true)
 unclean_kind (Held frame state) = cond (same_state state Clean) None (Some false)
 
+-- a run of unclean pages that are all zero pages, or all held
+abbrev pub dirty_run : KindRun → DirtyRange
+dirty_run run = dirty_range run.first run.count run.kind
+
 -- the maximal runs of unclean pages of one kind in a range
 abbrev pub unclean_runs : PageMap → Span → List DirtyRange
 unclean_runs list range =
-    map (λ run. dirty_range run.first run.count run.kind) (kind_runs (λ p. unclean_kind (page_at list p)) range.first None 0 range.count)
+    map dirty_run (kind_runs (λ p. unclean_kind (page_at list p)) range.first None 0 range.count)
 
 -- the frames of the n pages from `first` on, that of the last page first
 abbrev pub frames_down : (ℕ → Page) → ℕ → ℕ → List Frame

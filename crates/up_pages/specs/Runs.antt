@@ -1,13 +1,7 @@
 -- What the loop over the runs of a range says of them, within the crate.
 use Rattle.std.specs.Prelude.{ℕ, ◌+◌, ◌<◌, Bool, cond, Option, Some, None}
-use Rattle.up_num.specs.Pages.{dirty_range}
-use Rattle.up_num.specs.declared.pages.DirtyRange.{DirtyRange}
 use Rattle.up_span.specs.Runs.{same_kind_of_page}
-use Rattle.up_span.specs.declared.run.KindRun.{KindRun}
 use Rattle.up_pages.specs.declared.runs.Run.{Run}
-
-abbrev pub dirty_run : KindRun → DirtyRange
-dirty_run run = dirty_range run.first run.count run.kind
 
 -- a run of a kind has a page
 abbrev pub HasPages : Option Bool → ℕ → Type 0

@@ -1,4 +1,6 @@
-ghost use Rattle.std.specs.Prelude.{◌≡◌, ◌+◌, ◌<◌, ◌≤◌, [], ◌∷◌, ◌++◌, length, option_to_list, IfOk, IfErr, IsOk, OnOk, OnErr, MatchOption};
+ghost use Rattle.std.specs.Prelude.{◌≡◌, ◌+◌, ◌<◌, ◌≤◌, [], ◌∷◌, ◌++◌, length, option_to_list, IfOk, IfErr, IsOk, OnOk, OnErr, MatchOption, Some};
+ghost use Rattle.up_bank.specs.declared.kind.FrameKind.{FrameKind};
+ghost use Rattle.up_pages.specs.Frames.{count_kind};
 
 use crate::Memory;
 use std::alloc::{AllocError, Global};
@@ -79,6 +81,7 @@ impl Frames {
     pub fn put(&mut self, frame: Frame)
         requires { length self.old.items < self.old.room }
         ensures items { self.new.items ≡ self.old.items ++ frame ∷ [] }
+        ensures kinds { (kind : FrameKind) → count_kind kind self.new.items ≡ count_kind kind self.old.items + count_kind kind (option_to_list (Some frame)) }
         ensures room { self.new.room ≡ self.old.room }
     {
         self.frames.push_reserved(frame);
@@ -88,6 +91,7 @@ impl Frames {
     pub fn put_some(&mut self, frame: Option<Frame>)
         requires { length self.old.items + length (option_to_list frame) ≤ self.old.room }
         ensures items { self.new.items ≡ self.old.items ++ option_to_list frame }
+        ensures kinds { (kind : FrameKind) → count_kind kind self.new.items ≡ count_kind kind self.old.items + count_kind kind (option_to_list frame) }
         ensures room { self.new.room ≡ self.old.room }
     {
         match frame {
@@ -115,6 +119,7 @@ impl Frames {
     /// Takes the last frame off. Its room stays.
     pub fn pop(&mut self) -> Option<Frame>
         ensures items { MatchOption result ((self.old.items ≡ []) × (self.new.items ≡ [])) (λ last. self.old.items ≡ self.new.items ++ last ∷ []) }
+        ensures kinds { (kind : FrameKind) → count_kind kind self.new.items + count_kind kind (option_to_list result) ≡ count_kind kind self.old.items }
         ensures room { self.new.room ≡ self.old.room }
     {
         self.frames.pop()

@@ -1,5 +1,5 @@
 //! Laws over page lists and lists of frames. Each is a function with an empty body, whose clause is the law.
-ghost use Rattle.up_pages.specs.Laws.{SamePages, KindsAddUp, EachOfOneKind};
+ghost use Rattle.up_pages.specs.Laws.{SamePages, KindsAddUp, EachOfOneKind, FramesStood, FramesComeBack, AsManyComeBack};
 
 /// A page list is determined by its size, its pages and its spare changes.
 pub fn same_pages()
@@ -10,4 +10,11 @@ pub fn same_pages()
 pub fn frames_are_counted()
     ensures sums { KindsAddUp }
     ensures each { EachOfOneKind }
+{}
+
+/// The frames of a range of pages are just those that hold its pages, each once.
+pub fn frames_come_back_once()
+    ensures stood { FramesStood }
+    ensures all { FramesComeBack }
+    ensures many { AsManyComeBack }
 {}

@@ -74,7 +74,14 @@ fn held_from(pages: &Vec<Page>, first: usize) -> u32
 }
 
 // Marks pages of a range.
-fn mark_pages(pages: &mut Vec<Page>, first: u32, count: u32, from: PageState, to: PageState, zero_only: bool)
+fn mark_pages(
+    pages: &mut Vec<Page>,
+    first: u32,
+    count: u32,
+    from: PageState,
+    to: PageState,
+    zero_only: bool,
+)
     requires { first + count ≤ length pages.old.items }
     ensures size { length pages.new.items ≡ length pages.old.items }
     ensures pages { (p : ℕ) → slice_index_or pages.new.items p Page.Absent ≡ cond (nat_le first p && nat_lt p (first + count)) (marked from to zero_only (slice_index_or pages.old.items p Page.Absent)) (slice_index_or pages.old.items p Page.Absent) }
@@ -225,6 +232,7 @@ impl PageList {
         ensures pages { (p : ℕ) → page_at self.new p ≡ cond (page.0 == p) (with_state state (page_at self.old p)) (page_at self.old p) }
         ensures size { size_of self.new ≡ size_of self.old }
         ensures spare { self.new.spare + 1 ≡ self.old.spare }
+        ensures frames { (p : ℕ) → frame_of (page_at self.new p) ≡ frame_of (page_at self.old p) }
         ensures kinds { (kind : FrameKind) → held_by kind self.new ≡ held_by kind self.old }
     {
         self.spare -= 1;
@@ -239,10 +247,18 @@ impl PageList {
         ensures pages { (p : ℕ) → page_at self.new p ≡ cond (covers range p) (marked from to zero_only (page_at self.old p)) (page_at self.old p) }
         ensures size { size_of self.new ≡ size_of self.old }
         ensures spare { self.new.spare + range.count ≡ self.old.spare }
+        ensures frames { (p : ℕ) → frame_of (page_at self.new p) ≡ frame_of (page_at self.old p) }
         ensures kinds { (kind : FrameKind) → held_by kind self.new ≡ held_by kind self.old }
     {
         self.spare -= range.count;
-        mark_pages(&mut self.pages, range.first, range.count, from, to, zero_only);
+        mark_pages(
+            &mut self.pages,
+            range.first,
+            range.count,
+            from,
+            to,
+            zero_only,
+        );
     }
 
     /// Appends absent pages, up to a size.
@@ -282,7 +298,12 @@ impl PageList {
 
     /// The maximal runs of a range's unclean pages that are all zero pages or all held, rising: the first `room`, and how
     /// many there are in all.
-    pub fn runs(&self, alloc: Global, range: PageRange, room: u32) -> Result<(RangeSeq, u32), Memory>
+    pub fn runs(
+        &self,
+        alloc: Global,
+        range: PageRange,
+        room: u32,
+    ) -> Result<(RangeSeq, u32), Memory>
         requires { range.first + range.count ≤ size_of self.now }
         ensures first { IfOk result (λ found. found.0 ≡ take room (unclean_runs self.now range)) }
         ensures total { IfOk result (λ found. found.1 ≡ length (unclean_runs self.now range)) }

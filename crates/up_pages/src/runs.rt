@@ -1,8 +1,8 @@
 //! The maximal runs of unclean pages of one kind.
 ghost use Rattle.std.specs.Prelude.{◌≡◌, ◌+◌, ◌-◌, ◌++◌, ◌<◌, ◌≤◌, ◌^◌, cond, length, map, take, slice_index_or, IfOk, OnOk, None};
 ghost use Rattle.up_span.specs.Runs.{closed_kind, kind_runs, same_kind_of_page};
-ghost use Rattle.up_pages.specs.Pages.{unclean_kind};
-ghost use Rattle.up_pages.specs.Runs.{HasPages, run_after, dirty_run};
+ghost use Rattle.up_pages.specs.Pages.{unclean_kind, dirty_run};
+ghost use Rattle.up_pages.specs.Runs.{HasPages, run_after};
 
 use crate::Memory;
 use crate::page::Page;
@@ -44,7 +44,12 @@ fn close_run(list: &mut Vec<DirtyRange>, page: u32, run: Run) -> Result<(), Memo
 }
 
 // Goes on with the run by a page of this kind, or ends it and begins another.
-fn next_run(list: &mut Vec<DirtyRange>, page: u32, kind: Option<bool>, run: Run) -> Result<Run, Memory>
+fn next_run(
+    list: &mut Vec<DirtyRange>,
+    page: u32,
+    kind: Option<bool>,
+    run: Run,
+) -> Result<Run, Memory>
     requires within { run.count ≤ page }
     requires below { page < 2 ^ 32 - 1 }
     requires some { HasPages run.kind run.count }
@@ -62,7 +67,12 @@ fn next_run(list: &mut Vec<DirtyRange>, page: u32, kind: Option<bool>, run: Run)
 }
 
 // All runs of a range.
-fn all_runs(alloc: Global, pages: &Vec<Page>, first: u32, count: u32) -> Result<Vec<DirtyRange>, Memory>
+fn all_runs(
+    alloc: Global,
+    pages: &Vec<Page>,
+    first: u32,
+    count: u32,
+) -> Result<Vec<DirtyRange>, Memory>
     requires within { first + count ≤ length pages.now.items }
     requires below { first + count < 2 ^ 32 }
     ensures same { IfOk result (λ list. list.items ≡ map dirty_run (kind_runs (λ p. unclean_kind (slice_index_or pages.now.items p Page.Absent)) first None 0 count)) }
@@ -83,7 +93,13 @@ fn all_runs(alloc: Global, pages: &Vec<Page>, first: u32, count: u32) -> Result<
 }
 
 /// The first `room` of the runs of a range, and how many there are in all.
-pub(crate) fn first_runs(alloc: Global, pages: &Vec<Page>, first: u32, count: u32, room: u32) -> Result<(RangeSeq, u32), Memory>
+pub(crate) fn first_runs(
+    alloc: Global,
+    pages: &Vec<Page>,
+    first: u32,
+    count: u32,
+    room: u32,
+) -> Result<(RangeSeq, u32), Memory>
     requires within { first + count ≤ length pages.now.items }
     requires below { first + count < 2 ^ 32 }
     ensures first { IfOk result (λ found. found.0 ≡ take room (map dirty_run (kind_runs (λ p. unclean_kind (slice_index_or pages.now.items p Page.Absent)) first None 0 count))) }

@@ -1,5 +1,5 @@
 -- Laws over the order of reclaiming.
-use Rattle.std.specs.Prelude.{◌≡◌, ◌≢◌, ◌⊎◌, ◌<◌, ℕ, Option, Some, None, List, [], ◌∷◌, ◌++◌, IsTrue, length, slice_index_or}
+use Rattle.std.specs.Prelude.{◌≡◌, ◌≢◌, ◌⊎◌, ◌<◌, ◌≤◌, ℕ, Option, Some, None, List, [], ◌∷◌, ◌++◌, IsTrue, length, slice_index_or}
 use Rattle.up_queues.specs.declared.queued.Queued.{Queued}
 use Rattle.up_queues.specs.Queue.{find_page, goes_first, precedes, InOrder}
 
@@ -28,3 +28,8 @@ NoPageTwice = (before : List Queued) (item : Queued) (after : List Queued) → I
 -- a list in order is determined by what it finds of each page
 abbrev pub SameQueue : Type 0
 SameQueue = (a b : List Queued) → InOrder a → InOrder b → ((p : ℕ) → find_page a p ≡ find_page b p) → a ≡ b
+
+-- a list in order whose pages are all numbered below n has at most n items, and fewer where one of those pages isn't there
+abbrev pub FewPages : Type 0
+FewPages = (n : ℕ) (items : List Queued) → InOrder items → ((p : ℕ) → n ≤ p → find_page items p ≡ None)
+    → (length items ≤ n) × ((p : ℕ) → p < n → find_page items p ≡ None → length items < n)

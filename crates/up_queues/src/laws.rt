@@ -1,5 +1,5 @@
 //! Laws over the order of reclaiming. Each is a function with an empty body, whose clause is the law.
-ghost use Rattle.up_queues.specs.Laws.{NeverItself, Through, OneGoesFirst, RisesStrictly, NoPageTwice, SameQueue};
+ghost use Rattle.up_queues.specs.Laws.{NeverItself, Through, OneGoesFirst, RisesStrictly, NoPageTwice, SameQueue, FewPages};
 
 /// The order goes round in no circle, and tells any two pages apart.
 pub fn the_order_is_strict()
@@ -21,4 +21,9 @@ pub fn no_page_twice()
 /// A list in order is determined by what it finds of each page.
 pub fn same_queue()
     ensures { SameQueue }
+{}
+
+/// There are no more items than pages, and fewer where a page isn't there.
+pub fn pages_are_few()
+    ensures { FewPages }
 {}

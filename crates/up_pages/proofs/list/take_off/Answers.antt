@@ -10,7 +10,7 @@ put_some-requires c =
     let last : c.pop.result ≡ Some (get_or c.loop-pages.pages.items (vec_len c.loop-pages.pages - 1) Absent) = c.pop.ensures.value Absent (omega arith) in
     let page : c.in-Some.page ≡ get_or c.loop-pages.pages.items (vec_len c.loop-pages.pages - 1) Absent = cc (last, c.in-Some.is) in
     room_for c.args.pages.now.items c.args.first (vec_len c.loop-pages.pages - 1) c.args.frames.now c.loop-pages.pages.items c.loop-pages.frames c.in-Some.page Absent c.into_frame.result
-      c.loop-pages.invariant some long page c.into_frame.ensures
+    c.loop-pages.invariant some long page c.into_frame.ensures
 
 pub loop-pages-preserved : goal.loop-pages-preserved
 loop-pages-preserved c =
@@ -19,4 +19,4 @@ loop-pages-preserved c =
     let last : c.pop.result ≡ Some (get_or c.loop-pages.pages.items (vec_len c.loop-pages.pages - 1) Absent) = c.pop.ensures.value Absent (omega arith) in
     let page : c.in-Some.page ≡ get_or c.loop-pages.pages.items (vec_len c.loop-pages.pages - 1) Absent = cc (last, c.in-Some.is) in
     taken c.args.pages.now.items c.args.first (vec_len c.loop-pages.pages - 1) c.args.frames.now c.loop-pages.pages.items c.pop.new.self.items c.loop-pages.frames c.put_some.new.self c.in-Some.page Absent c.into_frame.result
-      c.loop-pages.invariant some long c.pop.ensures.rest page c.into_frame.ensures c.put_some.ensures.items c.put_some.ensures.room
+    c.loop-pages.invariant some long c.pop.ensures.rest page c.into_frame.ensures c.put_some.ensures.items c.put_some.ensures.room

@@ -9,7 +9,7 @@ pub loop-place-preserved : goal.loop-place-preserved
 loop-place-preserved c =
     let within : c.args.first + c.loop-place.place < length c.args.pages.now.items = omega arith in
     let here : c.unclean_kind-kind.result ≡ unclean_kind (get_or c.args.pages.now.items (c.args.first + c.loop-place.place) Absent)
-          = c.unclean_kind-kind.ensures ∙ ap unclean_kind (c.index.ensures ∙ get_or_default c.args.pages.now.items (c.args.first + c.loop-place.place) _ Absent within) in
+    = c.unclean_kind-kind.ensures ∙ ap unclean_kind (c.index.ensures ∙ get_or_default c.args.pages.now.items (c.args.first + c.loop-place.place) _ Absent within) in
     record {
       found = kinds_next (λ p. unclean_kind (get_or c.args.pages.now.items p Absent)) c.loop-place.list.items _ _ _ _ _ c.loop-place.run _ c.unclean_kind-kind.result
           c.loop-place-test.true here c.in_ok-run.ensures.next c.in_ok-run.ensures.closed c.loop-place.invariant.found;

@@ -1,7 +1,7 @@
 use Rattle.std.proofs.Common.{◌≡◌, ◌≤◌, ◌+◌, ◌-◌, ◌++◌, None, length, map, get_or}
 use Rattle.up_span.specs.Runs.{kind_runs}
-use Rattle.up_pages.specs.Pages.{unclean_kind}
-use Rattle.up_pages.specs.Runs.{dirty_run, HasPages}
+use Rattle.up_pages.specs.Pages.{unclean_kind, dirty_run}
+use Rattle.up_pages.specs.Runs.{HasPages}
 use Rattle.up_pages.specs.declared.page.Page.TheVariants.{Absent}
 use Rattle.up_pages.proofs.runs.all_runs.Given as goal
 

@@ -7,4 +7,4 @@ pub returns-clause-kinds : goal.returns-clause-kinds
 returns-clause-kinds c = λ kind.
     let longer : length c.self.inside.pages.items ≤ length c.add_absent.new.pages.items = omega (arith, ap length c.in_ok-reserve.ensures.items, c.add_absent.ensures.size) in
     rw (← c.self.view_is) (grown_kinds kind c.self.inside.pages.items c.add_absent.new.pages.items longer
-      (λ p. c.add_absent.ensures.pages p ∙ ap (λ l. get_or l p Absent) c.in_ok-reserve.ensures.items))
+    (λ p. c.add_absent.ensures.pages p ∙ ap (λ l. get_or l p Absent) c.in_ok-reserve.ensures.items))

@@ -1,0 +1,5 @@
+use Rattle.up_queues.proofs.Few.{few_pages}
+use Rattle.up_queues.proofs.laws.pages_are_few.Goals as goal
+
+pub returns : goal.returns
+returns c = few_pages
