@@ -1,11 +1,9 @@
 -- The page at each number, after pages were appended or marked.
-use Rattle.std.proofs.Common.{◌≡◌, ◌≢◌, ℕ, zero, suc, ◌+◌, ◌-◌, ◌==◌, ◌&&◌, ◌<◌, ◌≤◌, Bool, true, false, cond, List, [], ◌∷◌, ◌++◌, length, get_or, set, refl, sym, ◌∙◌, ap, subst, arith, nat_lt, nat_le}
-use Rattle.std.proofs.lemmas.Bool.Decides.{nat_tests}
-use Rattle.std.proofs.lemmas.List.{get_or-set_same, get_or-set_other, length-set}
+use Rattle.std.proofs.Common.{◌≡◌, ℕ, zero, suc, ◌+◌, ◌&&◌, ◌≤◌, Bool, cond, List, [], ◌∷◌, ◌++◌, length, get_or, refl, ◌∙◌, ap, arith, nat_lt, nat_le}
 use Rattle.up_num.specs.declared.answers.PageState.{PageState}
 use Rattle.up_pages.specs.Pages.{PageMap, size_of, page_at, marked}
 use Rattle.up_pages.specs.declared.page.Page.{Page}
-use Rattle.up_pages.specs.declared.page.Page.TheVariants.{Absent, Zero, Held}
+use Rattle.up_pages.specs.declared.page.Page.TheVariants.{Absent}
 
 pub absent_more : (xs : List Page) (p : ℕ) → get_or (xs ++ Absent ∷ []) p Absent ≡ get_or xs p Absent
 absent_more [] zero = refl

@@ -1,11 +1,11 @@
 -- Pages are taken off a list from its end, one by one.
-use Rattle.std.proofs.Common.{◌≡◌, ℕ, zero, suc, ◌+◌, ◌-◌, ◌<◌, ◌≤◌, Option, Some, None, List, [], ◌∷◌, ◌++◌, length, get_or, take, refl, sym, ◌∙◌, ap, subst, arith, option_to_list, append_assoc}
+use Rattle.std.proofs.Common.{◌≡◌, ℕ, suc, ◌+◌, ◌-◌, ◌<◌, ◌≤◌, Option, List, ◌++◌, length, get_or, take, refl, sym, ◌∙◌, ap, arith, option_to_list, append_assoc}
 use Rattle.std.proofs.lemmas.List.{length-append, length-take-le, take-take, take_all, get_or-take, get_or_default}
 use Rattle.up_bank.specs.Standing.{Held as Frame}
 use Rattle.up_pages.specs.Frames.{Stock}
 use Rattle.up_pages.specs.Pages.{frame_of, frames_down}
 use Rattle.up_pages.specs.declared.page.Page.{Page}
-use Rattle.up_pages.specs.declared.page.Page.TheVariants.{Absent, Zero, Held}
+use Rattle.up_pages.specs.declared.page.Page.TheVariants.{Absent}
 
 -- so many of the pages from `first` on are left, and the frames of the others stand behind those that were there before
 pub record Taking (xs : List Page) (first : ℕ) (before : Stock) (pages : List Page) (frames : Stock) : Type 0 where

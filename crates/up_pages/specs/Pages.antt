@@ -1,5 +1,5 @@
 -- What contracts see of a page list: a map from page numbers to pages.
-use Rattle.std.specs.Prelude.{ℕ, ◌+◌, ◌&&◌, not, Bool, true, false, cond, Option, Some, None, List, [], ◌∷◌, ◌++◌, zero, suc, length, take, map, slice_index_or, option_to_list}
+use Rattle.std.specs.Prelude.{ℕ, ◌+◌, Bool, true, false, cond, Option, Some, None, List, [], ◌++◌, zero, suc, length, map, slice_index_or, option_to_list}
 use Rattle.std.specs.Option.{option_map}
 use Rattle.up_num.specs.Pages.{dirty_range}
 use Rattle.up_num.specs.Span.{Span}

@@ -1,4 +1,4 @@
-use Rattle.std.proofs.Common.{◌≡◌, ◌<◌, ◌≤◌, ◌+◌, length, vec_len, rules, arith}
+use Rattle.std.proofs.Common.{◌≡◌, ◌<◌, ◌≤◌, ◌+◌, length, rules, arith}
 use Rattle.up_pages.proofs.Counting.{held_next}
 use Rattle.up_pages.proofs.list.held_from.Goals as goal
 

@@ -1,4 +1,4 @@
-use Rattle.std.proofs.Common.{◌≡◌, ◌≤◌, ◌-◌, ◌++◌, ℕ, [], None, length, get_or, sym, subst, ap, ◌∙◌, arith, rules}
+use Rattle.std.proofs.Common.{◌≡◌, ◌≤◌, ◌-◌, ◌++◌, ℕ, None, length, get_or, sym, subst, ap, ◌∙◌, rules}
 use Rattle.up_pages.specs.Pages.{page_at, frame_of, frames_down}
 use Rattle.up_pages.specs.declared.page.Page.TheVariants.{Absent}
 use Rattle.up_pages.proofs.Counting.{down_none, cut_kinds}

@@ -1,4 +1,4 @@
-use Rattle.std.proofs.Common.{◌≡◌, ◌≤◌, length, get_or, ap, ◌∙◌, arith}
+use Rattle.std.proofs.Common.{◌≤◌, length, get_or, ap, ◌∙◌, arith}
 use Rattle.up_pages.specs.declared.page.Page.TheVariants.{Absent}
 use Rattle.up_pages.proofs.Counting.{grown_kinds}
 use Rattle.up_pages.proofs.list.PageList.grow.Goals as goal
