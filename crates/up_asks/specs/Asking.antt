@@ -1,5 +1,5 @@
 -- What contracts see of asks, packets and tickets, and what each change makes of them.
-use Rattle.std.specs.Prelude.{ℕ, ◌+◌, ◌&&◌, not, Bool, true, false, cond, Option, Some, None, is_some, List, [], ◌∷◌, map, slice_get}
+use Rattle.std.specs.Prelude.{◌≡◌, ℕ, ◌+◌, ◌&&◌, not, Bool, true, false, cond, Option, Some, None, is_some, List, [], ◌∷◌, map, slice_get}
 use Rattle.up_num.specs.Asks.{Ask, same_kind, is_waiting, then_outcome, packet_of}
 use Rattle.up_num.specs.Span.{covers}
 use Rattle.up_num.specs.declared.answers.AskKind.{AskKind}
@@ -85,3 +85,16 @@ holder_by _ _ = None
 
 abbrev pub holder_in : Asking → ℕ → Option ℕ
 holder_in asking number = holder_by (slice_get asking.tickets number) (slice_get asking.waiters number)
+
+-- all but the pages asked for, the tickets and the room is as before
+pub record SameButTickets (old new : Asking) (tickets : List Ticket) : Type 0 where
+  pub packets : new.packets ≡ old.packets
+  pub taken : new.taken ≡ old.taken
+  pub closed : new.closed ≡ old.closed
+  pub tickets_are : new.tickets ≡ tickets
+  pub waiters : new.waiters ≡ old.waiters
+
+-- all but the room is as before
+pub record SameAsks (old new : Asking) : Type 0 where
+  pub pages : (kind : AskKind) → (pages_of new.pages kind).runs ≡ (pages_of old.pages kind).runs
+  pub rest : SameButTickets old new old.tickets

@@ -1,4 +1,4 @@
-ghost use Rattle.std.specs.Prelude.{◌≡◌, ◌+◌, ◌<◌, ◌^◌};
+ghost use Rattle.std.specs.Prelude.{◌≡◌, ◌+◌, ◌<◌, ◌^◌, Some, length, slice_get};
 ghost use Rattle.up_num.specs.Asks as asks;
 ghost use Rattle.up_asks.specs.Asking.{event_of, events_of, fixes, ticket_after};
 
@@ -68,13 +68,21 @@ impl Event {
     }
 }
 
+/// The event at this place.
+pub(crate) fn event_at(events: &[Event], place: usize) -> &Event
+    requires { place < length events.now }
+    ensures { slice_get events.now place ≡ Some result.now }
+{
+    &events[place]
+}
+
 /// What the events make of those who wait for this page with this kind.
 fn outcome_of(events: &[Event], kind: AskKind, page: u32) -> Outcome
     ensures { result ≡ events_of events.now kind page }
 {
     let mut outcome = Outcome::Waiting;
     for place in 0..events.len() {
-        outcome = first_of(outcome, events[place].outcome_at(kind, page));
+        outcome = first_of(outcome, event_at(events, place).outcome_at(kind, page));
     }
     outcome
 }

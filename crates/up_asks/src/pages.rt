@@ -8,7 +8,7 @@ ghost use Rattle.up_span.specs.Sets.{holds};
 ghost use Rattle.up_asks.specs.Asking.{AskedPages, pages_of, event_of, events_of};
 ghost use Rattle.up_asks.specs.Keeps.{AllFixed};
 
-use crate::event::{Event, pages_in, start_of};
+use crate::event::{Event, event_at, pages_in, start_of};
 use std::alloc::Global;
 use std::marker::Model;
 use up_num::{AskKind, Memory};
@@ -106,7 +106,7 @@ impl Pages {
             ≡ (holds (pages_of self.old each).runs page && asks.is_waiting (events_of events.now each page)) }
     {
         for place in 0..events.len() {
-            self.take_out(&events[place]);
+            self.take_out(event_at(events, place));
         }
     }
 
