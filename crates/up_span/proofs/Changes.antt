@@ -320,3 +320,17 @@ remove_list xs ys low high first count start stop spans some below low_within be
       stops = stops;
       least = omega arith;
     }) ys same
+
+-- where a run ends behind a range, some run meets the range
+pub some_met : (xs : List Run) (low high first end stop : ℕ) → low ≤ high → high ≤ length xs → end_of 0 (take low xs) ≤ first + 1 → first ≤ end →
+    stop ≡ stop_in (before_place xs high) end → end < stop → low < high
+some_met xs low zero first end stop order within' before range stops h = absurd (omega arith)
+some_met xs low (suc k) first end stop order within' before range stops h = ⊎_elim
+    (λ less. less)
+    (λ over. some_within xs k (low < suc k) (omega arith) (λ run is.
+    let is_stop : stop ≡ max (run.first + run.count) end = stops ∙ ap (λ (o : Option Run). stop_in o end) is in
+    let same : k + 1 ≡ low = omega arith in
+    let last : end_of 0 (take (k + 1) xs) ≡ run.first + run.count + 1 = end_take xs k run is in
+    let ended : end_of 0 (take (k + 1) xs) ≤ first + 1 = subst (λ n. end_of 0 (take n xs) ≤ first + 1) (sym same) before in
+    absurd (omega arith)))
+    (cases_lt low (suc k))

@@ -26,6 +26,11 @@ Parted from before [] = Unit {0}
 Parted from before (run ∷ rest) = (from ≤ run.first) × ((0 < run.count)
     × ((run.first ≡ from → same_kind_of_page (Some run.kind) before ≡ false) × Parted (run.first + run.count) (Some run.kind) rest))
 
+-- what contracts see of a set of page numbers: its maximal runs, rising, and how often it can be changed without memory
+pub record PageSet : Type 0 where
+  pub runs : List Run
+  pub room : ℕ
+
 -- the least maximal run of the pages that a set has: no page before it is in the set, all of its pages are, and the page behind it isn't
 abbrev pub IsFirstRun : (ℕ → Bool) → Run → Type 0
 IsFirstRun has run = (0 < run.count) × (((page : ℕ) → page < run.first → has page ≡ false)

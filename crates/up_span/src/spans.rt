@@ -1,4 +1,4 @@
-ghost use Rattle.std.specs.Prelude.{◌≡◌, ℕ, ◌+◌, ◌<◌, ◌^◌, ◌&&◌, ◌||◌, [], false, not, MatchOption, IfOk, OnOk, OnErr};
+ghost use Rattle.std.specs.Prelude.{◌≡◌, ℕ, ◌+◌, ◌<◌, ◌≤◌, ◌^◌, ◌&&◌, ◌||◌, [], false, not, MatchOption, IfOk, OnOk, OnErr};
 ghost use Rattle.up_span.specs.Pages.{within};
 ghost use Rattle.up_span.specs.Runs.{runs as maximal_runs};
 ghost use Rattle.up_span.specs.Sets.{holds, Apart, IsFirstRun};
@@ -19,13 +19,13 @@ pub struct Spans {
 }
 
 impl Model for Spans {
-    ghost use Rattle.std.specs.Prelude.{List};
-    ghost use Rattle.up_span.specs.Sets.{AreSpans};
-    ghost use Rattle.up_span.specs.declared.run.Run.{Run as RunValue};
+    ghost use Rattle.std.specs.Prelude.{◌-◌, vec_len};
+    ghost use Rattle.std.specs.Vec.{vec_capacity};
+    ghost use Rattle.up_span.specs.Sets.{AreSpans, PageSet};
 
-    ghost Value = { List RunValue };
+    ghost Value = { PageSet };
 
-    ghost view = { λ set. set.runs.items };
+    ghost view = { λ set. record { runs = set.runs.items; room = vec_capacity set.runs - vec_len set.runs } };
 
     ghost invariant = { λ set. AreSpans set.runs.items };
 }
@@ -33,21 +33,43 @@ impl Model for Spans {
 impl Spans {
     /// The empty set. It takes no memory.
     pub fn new(alloc: Global) -> Self
-        ensures { result ≡ [] }
+        ensures { result.runs ≡ [] }
     {
         Spans {
             runs: Vec::new(alloc),
         }
     }
 
+    /// Makes room for so many changes, each of which then takes no memory.
+    pub fn reserve(&mut self, changes: usize) -> Result<(), Memory>
+        ensures same { self.new.runs ≡ self.old.runs }
+        ensures more { self.old.room ≤ self.new.room }
+        ensures ok { OnOk result (changes ≤ self.new.room) }
+        ensures err { OnErr result (self.new ≡ self.old) }
+    {
+        self.runs.reserve(changes)
+    }
+
     /// Adds the pages of a range.
     pub fn add(&mut self, first: u32, count: u32) -> Result<(), Memory>
         requires { first + count < 2 ^ 32 }
-        ensures ok { OnOk result ((page : ℕ) → holds self.new page ≡ (holds self.old page || within first count page)) }
+        ensures ok { OnOk result ((page : ℕ) → holds self.new.runs page ≡ (holds self.old.runs page || within first count page)) }
         ensures err { OnErr result (self.new ≡ self.old) }
     {
+        self.reserve(1)?;
+        self.add_reserved(first, count);
+        Ok(())
+    }
+
+    /// Adds the pages of a range, in the room for one change.
+    pub fn add_reserved(&mut self, first: u32, count: u32)
+        requires below { first + count < 2 ^ 32 }
+        requires room { 0 < self.old.room }
+        ensures pages { (page : ℕ) → holds self.new.runs page ≡ (holds self.old.runs page || within first count page) }
+        ensures room { self.old.room ≤ self.new.room + 1 }
+    {
         if count == 0 {
-            return Ok(());
+            return;
         }
         let end = first + count;
         let low = apart_from(&self.runs, first);
@@ -59,18 +81,29 @@ impl Spans {
             to: stop,
         };
         let nothing = Stretch { from: end, to: end };
-        put_between(&mut self.runs, low, high, joined, nothing)?;
-        Ok(())
+        put_between(&mut self.runs, low, high, joined, nothing);
     }
 
     /// Takes the pages of a range out.
     pub fn remove(&mut self, first: u32, count: u32) -> Result<(), Memory>
         requires { first + count < 2 ^ 32 }
-        ensures ok { OnOk result ((page : ℕ) → holds self.new page ≡ (holds self.old page && not (within first count page))) }
+        ensures ok { OnOk result ((page : ℕ) → holds self.new.runs page ≡ (holds self.old.runs page && not (within first count page))) }
         ensures err { OnErr result (self.new ≡ self.old) }
     {
+        self.reserve(1)?;
+        self.remove_reserved(first, count);
+        Ok(())
+    }
+
+    /// Takes the pages of a range out, in the room for one change.
+    pub fn remove_reserved(&mut self, first: u32, count: u32)
+        requires below { first + count < 2 ^ 32 }
+        requires room { 0 < self.old.room }
+        ensures pages { (page : ℕ) → holds self.new.runs page ≡ (holds self.old.runs page && not (within first count page)) }
+        ensures room { self.old.room ≤ self.new.room + 1 }
+    {
         if count == 0 {
-            return Ok(());
+            return;
         }
         let end = first + count;
         let low = ended_by(&self.runs, first);
@@ -85,12 +118,19 @@ impl Spans {
             from: end,
             to: stop,
         };
-        put_between(&mut self.runs, low, high, left, right)?;
-        Ok(())
+        put_between(&mut self.runs, low, high, left, right);
+    }
+
+    /// Takes all pages out. It takes no memory.
+    pub fn clear(&mut self)
+        ensures runs { self.new.runs ≡ [] }
+        ensures room { self.old.room ≤ self.new.room }
+    {
+        self.runs.truncate(0);
     }
 
     pub fn holds(&self, page: u32) -> bool
-        ensures { result ≡ holds self.now page }
+        ensures { result ≡ holds self.now.runs page }
     {
         let place = ended_by(&self.runs, page);
         place < self.runs.len() && run_at(&self.runs, place).first <= page
@@ -99,15 +139,15 @@ impl Spans {
     /// The maximal runs of a range's pages that aren't in the set.
     pub fn minus(&self, alloc: Global, first: u32, count: u32) -> Result<Runs, Memory>
         requires { first + count < 2 ^ 32 }
-        ensures { IfOk result (λ outside. outside ≡ maximal_runs (λ page. not (holds self.now page)) first 0 count) }
+        ensures { IfOk result (λ outside. outside ≡ maximal_runs (λ page. not (holds self.now.runs page)) first 0 count) }
     {
         gaps_of(alloc, &self.runs, first, count)
     }
 
     /// The least maximal run of the set.
     pub fn first_run(&self) -> Option<Run>
-        ensures least { MatchOption result ((page : ℕ) → holds self.now page ≡ false) (λ run. IsFirstRun (holds self.now) run) }
-        ensures apart { Apart 0 self.now }
+        ensures least { MatchOption result ((page : ℕ) → holds self.now.runs page ≡ false) (λ run. IsFirstRun (holds self.now.runs) run) }
+        ensures apart { Apart 0 self.now.runs }
     {
         if self.runs.is_empty() {
             None
@@ -117,7 +157,7 @@ impl Spans {
     }
 
     pub fn copy(&self, alloc: Global) -> Result<Self, Memory>
-        ensures { IfOk result (λ copied. copied ≡ self.now) }
+        ensures { IfOk result (λ copied. copied.runs ≡ self.now.runs) }
     {
         let runs = Vec::from_slice(alloc, self.runs.as_slice())?;
         Ok(Spans { runs })

@@ -1,5 +1,5 @@
 //! Pages from one on and before another, which may be none, and the change of a list of runs by them.
-ghost use Rattle.std.specs.Prelude.{◌≡◌, ◌+◌, ◌-◌, ◌<◌, ◌≤◌, [], ◌∷◌, ◌++◌, nat_le, take, drop, vec_len, OnOk, OnErr};
+ghost use Rattle.std.specs.Prelude.{◌≡◌, ◌+◌, ◌-◌, ◌<◌, ◌≤◌, [], ◌∷◌, ◌++◌, nat_le, take, drop, vec_len, OnOk};
 ghost use Rattle.std.specs.Vec.{vec_capacity};
 ghost use Rattle.up_span.specs.Runs.{closed};
 
@@ -49,6 +49,7 @@ fn insert_stretch(runs: &mut Vec<Run>, place: usize, pages: Stretch)
     ensures items { runs.new.items ≡ take place runs.old.items ++ (closed pages.to (pages.to - pages.from) ++ drop place runs.old.items) }
     ensures len { vec_len runs.new ≤ vec_len runs.old + 1 }
     ensures longer { vec_len runs.old ≤ vec_len runs.new }
+    ensures none { pages.to ≤ pages.from → vec_len runs.new ≡ vec_len runs.old }
     ensures capacity { vec_capacity runs.old ≤ vec_capacity runs.new }
 {
     if pages.is_empty() {
@@ -73,23 +74,23 @@ fn close_gap(runs: &mut Vec<Run>, low: usize, high: usize)
     runs.truncate(len - (high - low));
 }
 
-/// Puts pages in place of the runs from one place on and before another.
+/// Puts pages in place of the runs from one place on and before another. There is room for one run more.
 pub(crate) fn put_between(
     runs: &mut Vec<Run>,
     low: usize,
     high: usize,
     left: Stretch,
     right: Stretch,
-) -> Result<(), Memory>
+)
     requires order { low ≤ high }
     requires within { high ≤ vec_len runs.old }
-    ensures ok { OnOk result (runs.new.items ≡ take low runs.old.items
-        ++ (closed left.to (left.to - left.from) ++ (closed right.to (right.to - right.from) ++ drop high runs.old.items))) }
-    ensures err { OnErr result (runs.new.items ≡ runs.old.items) }
+    requires room { vec_len runs.old < vec_capacity runs.old }
+    requires few { right.from < right.to → low < high }
+    ensures items { runs.new.items ≡ take low runs.old.items
+        ++ (closed left.to (left.to - left.from) ++ (closed right.to (right.to - right.from) ++ drop high runs.old.items)) }
+    ensures room { vec_capacity runs.old - vec_len runs.old ≤ vec_capacity runs.new - vec_len runs.new + 1 }
 {
-    runs.reserve(2)?;
     close_gap(runs, low, high);
     insert_stretch(runs, low, right);
     insert_stretch(runs, low, left);
-    Ok(())
 }

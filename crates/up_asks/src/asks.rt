@@ -1,0 +1,184 @@
+ghost use Rattle.std.specs.Prelude.{◌≡◌, ℕ, ◌+◌, ◌-◌, ◌<◌, ◌≤◌, ◌^◌, ◌&&◌, ◌||◌, [], ◌∷◌, ◌++◌, false, true, cond, length, map, Some, None, is_some, slice_get, slice_set, vec_len, MatchOption, IfOk, IfErr, OnOk, OnErr};
+ghost use Rattle.up_num.specs.Asks as asking;
+ghost use Rattle.up_num.specs.declared.answers.AskKind.{AskKind as AskKindValue};
+ghost use Rattle.up_num.specs.declared.answers.Outcome.TheVariants.{Detached};
+ghost use Rattle.up_num.specs.declared.answers.Packet.TheVariants.{Complete};
+ghost use Rattle.up_span.specs.Pages.{within};
+ghost use Rattle.up_span.specs.Sets.{holds};
+ghost use Rattle.up_asks.specs.Asking.{Asking, pages_of, asked_in, fresh, packets_for, new_ticket, events_of, ticket_after, fixed_among, holder_in, SameAsks, SameButTickets};
+ghost use Rattle.up_asks.specs.Keeps.{AllFixed};
+
+use crate::event::{Event, pages_in, start_of};
+use crate::pages::Pages;
+use crate::ticket::{Ticket, Waiter};
+use crate::waiting::{fixed_tickets, keep_waiting, settle_all};
+use std::alloc::Global;
+use std::marker::Model;
+use up_num::{AskKind, Memory, Outcome, Packet, PageNo, PageRange, Woken};
+use up_span::{Run, Runs};
+
+/// The pages asked of a pager, the packets sent to it, and the tickets of those who wait.
+#[derive(Debug, Drop)]
+pub struct Asks {
+    pages: Pages,
+    packets: Vec<Packet>,
+    taken: usize,
+    closed: bool,
+    tickets: Vec<Ticket>,
+    waiters: Vec<Option<Waiter>>,
+    /// The numbers of the tickets that wait, rising.
+    waiting: Vec<u64>,
+    packet_room: usize,
+    ticket_room: usize,
+}
+
+impl Model for Asks {
+    ghost use Rattle.up_asks.specs.Asking.{Asking};
+    ghost use Rattle.up_asks.specs.Standing.{AsksStand};
+
+    ghost Value = { Asking };
+
+    ghost view = { λ a. record {
+      pages = a.pages;
+      packets = a.packets.items;
+      taken = a.taken;
+      closed = a.closed;
+      tickets = a.tickets.items;
+      waiters = a.waiters.items;
+      packet_room = a.packet_room;
+      ticket_room = a.ticket_room;
+    } };
+
+    ghost invariant = { AsksStand };
+}
+
+impl Asks {
+    /// Nothing asked, nobody waiting.
+    pub fn new(alloc: Global) -> Result<Self, Memory>
+        ensures asked { IfOk result (λ made. (kind : AskKindValue) (page : ℕ) → asked_in made kind page ≡ false) }
+        ensures packets { IfOk result (λ made. (made.packets ≡ []) × ((made.taken ≡ 0) × (made.closed ≡ false))) }
+        ensures tickets { IfOk result (λ made. (made.tickets ≡ []) × (made.waiters ≡ [])) }
+    {
+        let mut packets = Vec::new(alloc);
+        packets.reserve(1)?;
+        Ok(Asks {
+            pages: Pages::new(alloc),
+            packets,
+            taken: 0,
+            closed: false,
+            tickets: Vec::new(alloc),
+            waiters: Vec::new(alloc),
+            waiting: Vec::new(alloc),
+            packet_room: 0,
+            ticket_room: 0,
+        })
+    }
+
+    /// Makes room for one ticket, so many packets, and so many changes of each kind's pages: what then happens in it
+    /// takes no memory.
+    pub fn reserve(&mut self, packets: u32, changes: usize) -> Result<(), Memory>
+        ensures same { SameAsks self.old self.new }
+        ensures packets { OnOk result (packets ≤ self.new.packet_room) }
+        ensures ticket { OnOk result (0 < self.new.ticket_room) }
+        ensures changes { OnOk result ((kind : AskKindValue) → changes ≤ (pages_of self.new.pages kind).room) }
+    {
+        self.pages.reserve(changes)?;
+        self.reserve_packets(packets)?;
+        self.reserve_ticket()
+    }
+
+    fn reserve_packets(&mut self, packets: u32) -> Result<(), Memory>
+        ensures same { self.new ≡ record self.old { packet_room = self.new.packet_room } }
+        ensures ok { OnOk result (packets ≤ self.new.packet_room) }
+    {
+        let wanted = packets as usize;
+        if wanted <= self.packet_room {
+            return Ok(());
+        }
+        self.packets.reserve(wanted + 1)?;
+        self.packet_room = wanted;
+        Ok(())
+    }
+
+    fn reserve_ticket(&mut self) -> Result<(), Memory>
+        ensures same { self.new ≡ record self.old { ticket_room = self.new.ticket_room } }
+        ensures ok { OnOk result (0 < self.new.ticket_room) }
+    {
+        if self.ticket_room > 0 {
+            return Ok(());
+        }
+        self.tickets.reserve(1)?;
+        self.waiters.reserve(1)?;
+        self.waiting.reserve(1)?;
+        self.ticket_room = 1;
+        Ok(())
+    }
+
+    /// What an ask for these pages would send.
+    pub fn fresh(&self, alloc: Global, kind: AskKind, range: &PageRange) -> Result<Runs, Memory>
+        ensures { IfOk result (λ parts. parts ≡ fresh self.now kind range.now.first range.now.count) }
+    {
+        let first = start_of(range);
+        let count = pages_in(range);
+        self.pages.missing(alloc, kind, first, count)
+    }
+
+    /// How many packets weren't taken yet.
+    pub fn untaken(&self) -> u64
+        ensures { result ≡ length self.now.packets - self.now.taken }
+    {
+        (self.packets.len() - self.taken) as u64
+    }
+
+    /// Takes the next packet.
+    pub fn packet(&mut self) -> Option<Packet>
+        ensures next { result ≡ slice_get self.old.packets self.old.taken }
+        ensures new { self.new ≡ record self.old { taken = cond (is_some result) (self.old.taken + 1) self.old.taken } }
+    {
+        if self.taken == self.packets.len() {
+            return None;
+        }
+        let packet = self.packets[self.taken];
+        self.taken += 1;
+        Some(packet)
+    }
+
+    pub fn asked(&self, kind: AskKind, page: PageNo) -> bool
+        ensures { result ≡ asked_in self.now kind page.0 }
+    {
+        self.pages.holds(kind, page.0)
+    }
+
+    /// The tickets that the events would fix.
+    pub fn waking(&self, alloc: Global, events: &[Event]) -> Result<Woken, Memory>
+        ensures { IfOk result (λ woken. woken ≡ fixed_among (events_of events.now) self.now.tickets 0) }
+    {
+        fixed_tickets(alloc, self.tickets.as_slice(), self.waiting.as_slice(), events)
+    }
+
+    /// Lets the events happen, one after another, in the room for as many changes.
+    pub fn settle(&mut self, events: &[Event])
+        requires fixed { AllFixed events.now }
+        requires room { (kind : AskKindValue) → length events.now ≤ (pages_of self.old.pages kind).room }
+        ensures pages { (kind : AskKindValue) (page : ℕ) → asked_in self.new kind page ≡ (asked_in self.old kind page && asking.is_waiting (events_of events.now kind page)) }
+        ensures tickets { self.new ≡ record self.old { pages = self.new.pages; tickets = map (ticket_after (events_of events.now)) self.old.tickets } }
+    {
+        self.pages.take_all_out(events);
+        settle_all(self.tickets.as_mut_slice(), self.waiting.as_slice(), events);
+        keep_waiting(&mut self.waiting, self.tickets.as_slice());
+    }
+
+    /// Lets the events happen, one after another, and answers the tickets that they fix.
+    pub fn resolve(&mut self, alloc: Global, events: &[Event]) -> Result<Woken, Memory>
+        requires fixed { AllFixed events.now }
+        ensures pages { OnOk result ((kind : AskKindValue) (page : ℕ) → asked_in self.new kind page ≡ (asked_in self.old kind page && asking.is_waiting (events_of events.now kind page))) }
+        ensures tickets { OnOk result (SameButTickets self.old self.new (map (ticket_after (events_of events.now)) self.old.tickets)) }
+        ensures woken { IfOk result (λ woken. woken ≡ fixed_among (events_of events.now) self.old.tickets 0) }
+        ensures err { OnErr result (SameAsks self.old self.new) }
+    {
+        let woken = self.waking(alloc, events)?;
+        self.pages.reserve(events.len())?;
+        self.settle(events);
+        Ok(woken)
+    }
+}
