@@ -1,9 +1,9 @@
-ghost use Rattle.std.specs.Prelude.{◌≡◌, ℕ, ◌+◌, ◌-◌, ◌<◌, ◌≤◌, ◌==◌, ◌&&◌, ◌++◌, ◌^◌, [], cond, length, take, drop, slice_index_or, option_to_list, nat_le, nat_lt, vec_capacity, IsTrue, IsOk, IsSome, IfOk, IfSome, OnOk, OnErr, Some, None};
+ghost use Rattle.std.specs.Prelude.{◌≡◌, ℕ, ◌+◌, ◌-◌, ◌<◌, ◌≤◌, ◌==◌, ◌&&◌, ◌++◌, ◌^◌, [], cond, length, take, slice_index_or, option_to_list, nat_le, nat_lt, vec_capacity, IsOk, IsSome, IfOk, IfSome, OnOk, OnErr, Some, None};
 ghost use Rattle.std.specs.Option.{option_copied};
 ghost use Rattle.up_num.specs.Span.{covers};
 ghost use Rattle.up_bank.specs.declared.kind.FrameKind.{FrameKind};
 ghost use Rattle.up_pages.specs.Frames.{count_kind};
-ghost use Rattle.up_pages.specs.Pages.{size_of, page_at, look_of, frame_of, bytes_in, overwritten, with_state, marked, unclean_runs, frames_down, is_held_by, held_by};
+ghost use Rattle.up_pages.specs.Pages.{size_of, page_at, look_of, frame_of, bytes_in, overwritten, with_state, marked, unclean_runs, frames_down, held_by};
 
 use crate::Memory;
 use crate::frames::Frames;

@@ -1,5 +1,5 @@
 -- How many items a list in order can have.
-use Rattle.std.proofs.Common.{◌≡◌, ℕ, zero, suc, ◌+◌, ◌==◌, ◌<◌, ◌≤◌, cond, Bool, true, false, Option, Some, None, List, [], ◌∷◌, ◌++◌, length, refl, sym, ◌∙◌, ap, subst, arith, nat_lt}
+use Rattle.std.proofs.Common.{◌≡◌, ℕ, zero, suc, ◌==◌, ◌<◌, ◌≤◌, cond, Bool, true, false, Option, Some, None, List, [], ◌∷◌, ◌++◌, length, refl, sym, ◌∙◌, ap, subst, arith}
 use Rattle.std.proofs.lemmas.Bool.Decides.{nat_tests}
 use Rattle.std.proofs.lemmas.List.{length-append}
 use Rattle.up_queues.specs.declared.queued.Queued.{Queued}
@@ -20,10 +20,10 @@ split_at (y ∷ items) q x found =
       | true ↦ λ e f.
           let same : y ≡ x = cc in
           let own : y.page.0 ≡ q = grind (arith, nat_tests) in
-          record { before = []; after = items; is = ap (λ z. z ∷ items) same; page = ap (λ (z : Queued). z.page.0) (sym same) ∙ own; }
+          record { before = []; after = items; is = ap (λ z. z ∷ items) same; page = ap (λ (z : Queued). z.page.0) (sym same) ∙ own }
       | false ↦ λ e f.
           let rest : Split items q x = split_at items q x f in
-          record { before = y ∷ rest.before; after = rest.after; is = ap (λ l. y ∷ l) rest.is; page = rest.page; }
+          record { before = y ∷ rest.before; after = rest.after; is = ap (λ l. y ∷ l) rest.is; page = rest.page }
     ] refl found
 
 -- as many items as pages, and fewer where a page is missing
@@ -38,16 +38,18 @@ none_found x false r e h = absurd cc
 few_without : (n : ℕ) (items : List Queued) (x : Queued) (s : Split items n x) → InOrder items → find_page items n ≡ Some x → Few n (s.before ++ s.after) → Few (suc n) items
 few_without n items x s o found few =
     let long : length items ≡ suc (length (s.before ++ s.after))
-          = ap length s.is ∙ (length-append s.before (x ∷ s.after) ∙ omega (arith, length-append s.before s.after)) in
-    let o' : InOrder (s.before ++ x ∷ s.after) = subst InOrder s.is o in
-    (omega (arith, long, few.0), λ p below miss.
-      let other : p ≡ n → ⊥ = λ same. let there : find_page items n ≡ None = subst (λ q. find_page items q ≡ None) same miss in absurd cc in
-      let apart : (x.page.0 == p) ≡ false = let own : x.page.0 ≡ n = s.page in grind (arith, nat_tests) in
-      let without : find_page (s.before ++ s.after) p ≡ None
-            = find_taken s.before x s.after o' p ∙ (ap (λ b. cond b None (find_page (s.before ++ x ∷ s.after) p)) apart ∙ (ap (λ l. find_page l p) (sym s.is) ∙ miss)) in
-      let lower : p < n = omega (arith, other) in
-      let fewer : length (s.before ++ s.after) < n = few.1 p lower without in
-      omega (arith, long, fewer))
+    = ap length s.is ∙ (length-append s.before (x ∷ s.after) ∙ omega (arith, length-append s.before s.after)) in
+    let o' : InOrder (s.before ++ x ∷ s.after) = subst InOrder s.is o in (
+      omega (arith, long, few.0),
+      λ p below miss.
+          let other : p ≡ n → ⊥ = λ same. let there : find_page items n ≡ None = subst (λ q. find_page items q ≡ None) same miss in absurd cc in
+          let apart : (x.page.0 == p) ≡ false = let own : x.page.0 ≡ n = s.page in grind (arith, nat_tests) in
+          let without : find_page (s.before ++ s.after) p ≡ None
+          = find_taken s.before x s.after o' p ∙ (ap (λ b. cond b None (find_page (s.before ++ x ∷ s.after) p)) apart ∙ (ap (λ l. find_page l p) (sym s.is) ∙ miss)) in
+          let lower : p < n = omega (arith, other) in
+          let fewer : length (s.before ++ s.after) < n = few.1 p lower without in
+          omega (arith, long, fewer),
+    )
 
 pub few_pages : (n : ℕ) (items : List Queued) → InOrder items → ((p : ℕ) → n ≤ p → find_page items p ≡ None) → Few n items
 few_pages zero [] o none = (omega arith, λ p below miss. absurd (omega arith))
@@ -56,21 +58,21 @@ few_pages (suc n) items o none =
     elim (find_page items n) as (λ r. find_page items n ≡ r → Few (suc n) items) [
       | None ↦ λ e.
           let rest : Few n items = few_pages n items o (λ p above.
-                elim (n == p) as (λ b. (n == p) ≡ b → find_page items p ≡ None) [
-                  | true ↦ λ t. let same : n ≡ p = grind (arith, nat_tests) in subst (λ q. find_page items q ≡ None) same e
-                  | false ↦ λ t. let higher : suc n ≤ p = grind (arith, nat_tests) in none p higher
-                ] refl) in
+          elim (n == p) as (λ b. (n == p) ≡ b → find_page items p ≡ None) [
+            | true ↦ λ t. let same : n ≡ p = grind (arith, nat_tests) in subst (λ q. find_page items q ≡ None) same e
+            | false ↦ λ t. let higher : suc n ≤ p = grind (arith, nat_tests) in none p higher
+          ] refl) in
           (omega (arith, rest.0), λ p below miss. omega (arith, rest.0))
       | Some x ↦ λ e.
           let s : Split items n x = split_at items n x e in
           let o' : InOrder (s.before ++ x ∷ s.after) = subst InOrder s.is o in
           few_without n items x s o e (few_pages n (s.before ++ s.after) (taken_between s.before x s.after o') (λ p above.
-                elim (n == p) as (λ b. (n == p) ≡ b → find_page (s.before ++ s.after) p ≡ None) [
-                  | true ↦ λ t. let same : x.page.0 ≡ p = (let here : n ≡ p = grind (arith, nat_tests) in s.page ∙ here) in subst (λ q. find_page (s.before ++ s.after) q ≡ None) same (no_other s.before x s.after o')
-                  | false ↦ λ t.
-                      let higher : suc n ≤ p = grind (arith, nat_tests) in
-                      let own : x.page.0 ≡ n = s.page in
-                      let apart : (x.page.0 == p) ≡ false = grind (arith, nat_tests) in
-                      find_taken s.before x s.after o' p ∙ (ap (λ b. cond b None (find_page (s.before ++ x ∷ s.after) p)) apart ∙ (ap (λ l. find_page l p) (sym s.is) ∙ none p higher))
-                ] refl))
+          elim (n == p) as (λ b. (n == p) ≡ b → find_page (s.before ++ s.after) p ≡ None) [
+            | true ↦ λ t. let same : x.page.0 ≡ p = (let here : n ≡ p = grind (arith, nat_tests) in s.page ∙ here) in subst (λ q. find_page (s.before ++ s.after) q ≡ None) same (no_other s.before x s.after o')
+            | false ↦ λ t.
+                let higher : suc n ≤ p = grind (arith, nat_tests) in
+                let own : x.page.0 ≡ n = s.page in
+                let apart : (x.page.0 == p) ≡ false = grind (arith, nat_tests) in
+                find_taken s.before x s.after o' p ∙ (ap (λ b. cond b None (find_page (s.before ++ x ∷ s.after) p)) apart ∙ (ap (λ l. find_page l p) (sym s.is) ∙ none p higher))
+          ] refl))
     ] refl

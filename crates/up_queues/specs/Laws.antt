@@ -1,5 +1,5 @@
 -- Laws over the order of reclaiming.
-use Rattle.std.specs.Prelude.{◌≡◌, ◌≢◌, ◌⊎◌, ◌<◌, ◌≤◌, ℕ, Option, Some, None, List, [], ◌∷◌, ◌++◌, IsTrue, length, slice_index_or}
+use Rattle.std.specs.Prelude.{◌≡◌, ◌≢◌, ◌⊎◌, ◌<◌, ◌≤◌, ℕ, None, List, ◌∷◌, ◌++◌, IsTrue, length, slice_index_or}
 use Rattle.up_queues.specs.declared.queued.Queued.{Queued}
 use Rattle.up_queues.specs.Queue.{find_page, goes_first, precedes, InOrder}
 

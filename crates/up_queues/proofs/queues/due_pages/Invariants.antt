@@ -1,4 +1,4 @@
-use Rattle.std.proofs.Common.{◌≡◌, ◌≤◌, ◌++◌, ◌-◌, length, vec_len, filter, map, take, drop}
+use Rattle.std.proofs.Common.{◌≡◌, ◌≤◌, ◌++◌, ◌-◌, length, filter, map, take, drop}
 use Rattle.up_queues.specs.Queue.{is_due}
 use Rattle.up_queues.proofs.queues.due_pages.Given as goal
 

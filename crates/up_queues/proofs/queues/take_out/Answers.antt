@@ -1,4 +1,4 @@
-use Rattle.std.proofs.Common.{◌≡◌, ◌==◌, Option, Some, None, sym, ◌∙◌, ap}
+use Rattle.std.proofs.Common.{◌≡◌, ◌==◌, None, sym, ◌∙◌}
 use Rattle.std.specs.Prelude.{position}
 use Rattle.up_queues.proofs.Queueing.{StandsAt, absent, absent_stays, stands, taken_at, page_is}
 use Rattle.up_queues.proofs.queues.take_out.Goals as goal
