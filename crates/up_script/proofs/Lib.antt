@@ -1,2 +1,4 @@
 pub mod Counts
+pub mod Doing
 pub mod Faults
+pub mod Fitting

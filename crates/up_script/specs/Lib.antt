@@ -1,8 +1,9 @@
-pub mod Objects
-pub mod Declarations
-pub mod Verbs
 pub mod Actions
+pub mod Declarations
+pub mod Fit
+pub mod Laws
+pub mod Objects
 pub mod Reading
 pub mod Sound
 pub mod Stages
-pub mod Laws
+pub mod Verbs

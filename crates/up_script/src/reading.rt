@@ -2,6 +2,7 @@ ghost use Rattle.std.specs.Prelude.{◌≡◌, ◌≤◌, true, IfOk, OnOk};
 ghost use Rattle.up_words.specs.Steps.{Gives, GivesText, lines_from};
 ghost use Rattle.up_words.specs.Words.{split};
 ghost use Rattle.up_script.specs.Reading.{declaring, stage_step, is_skipped, content, line_step, script_in, ended, last_step, script_of};
+ghost use Rattle.up_script.specs.Fit.{Fits};
 ghost use Rattle.up_script.specs.Sound.{is_sound};
 ghost use Rattle.up_script.specs.Stages.{is_sound_stage};
 
@@ -181,6 +182,14 @@ fn read_lines(alloc: Global, text: &[u8]) -> Result<Script, ReadFault>
 /// stands for the whole text, where it is longer than 4,194,304 bytes. Each byte of the text is looked at a fixed number
 /// of times; memory is taken for one line's words at a time, and for the script.
 pub fn read_script(alloc: Global, bytes: &[u8]) -> Result<Script, ReadFault>
+    ensures exact { GivesText (λ script. script) result (script_of bytes.now) }
+    ensures sound { IfOk result (λ script. is_sound script ≡ true) }
+    ensures fits { IfOk result (λ script. Fits script) }
+{
+    read_text(alloc, bytes)
+}
+
+fn read_text(alloc: Global, bytes: &[u8]) -> Result<Script, ReadFault>
     ensures exact { GivesText (λ script. script) result (script_of bytes.now) }
     ensures sound { IfOk result (λ script. is_sound script ≡ true) }
 {
