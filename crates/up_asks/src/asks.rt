@@ -5,13 +5,15 @@ ghost use Rattle.up_num.specs.declared.answers.Outcome.TheVariants.{Detached};
 ghost use Rattle.up_num.specs.declared.answers.Packet.TheVariants.{Complete};
 ghost use Rattle.up_span.specs.Pages.{within};
 ghost use Rattle.up_span.specs.Sets.{holds};
-ghost use Rattle.up_asks.specs.Asking.{Asking, pages_of, asked_in, fresh, packets_for, new_ticket, events_of, ticket_after, fixed_among, holder_in, SameAsks, SameButTickets};
+ghost use Rattle.up_asks.specs.Asking.{Asking, all_detached, pages_of, asked_in, fresh, packets_for, new_ticket, events_of, ticket_after, fixed_among, holder_in, SameAsks, SameButTickets};
 ghost use Rattle.up_asks.specs.Keeps.{AllFixed};
+ghost use Rattle.up_asks.specs.declared.ticket.Ticket.{Ticket as TicketValue};
+ghost use Rattle.up_asks.specs.declared.ticket.Waiter.{Waiter as WaiterValue};
 
 use crate::event::{Event, pages_in, start_of};
 use crate::pages::Pages;
 use crate::ticket::{Ticket, Waiter};
-use crate::waiting::{fixed_tickets, keep_waiting, settle_all};
+use crate::waiting::{all_waiting, detach_all, happen, woken_by};
 use std::alloc::Global;
 use std::marker::Model;
 use up_num::{AskKind, Memory, Outcome, Packet, PageNo, PageRange, Woken};
@@ -153,7 +155,7 @@ impl Asks {
     pub fn waking(&self, alloc: Global, events: &[Event]) -> Result<Woken, Memory>
         ensures { IfOk result (λ woken. woken ≡ fixed_among (events_of events.now) self.now.tickets 0) }
     {
-        fixed_tickets(alloc, self.tickets.as_slice(), self.waiting.as_slice(), events)
+        woken_by(alloc, &self.tickets, &self.waiting, events)
     }
 
     /// Lets the events happen, one after another, in the room for as many changes.
@@ -164,8 +166,7 @@ impl Asks {
         ensures tickets { self.new ≡ record self.old { pages = self.new.pages; tickets = map (ticket_after (events_of events.now)) self.old.tickets } }
     {
         self.pages.take_all_out(events);
-        settle_all(self.tickets.as_mut_slice(), self.waiting.as_slice(), events);
-        keep_waiting(&mut self.waiting, self.tickets.as_slice());
+        happen(&mut self.tickets, &mut self.waiting, events);
     }
 
     /// Lets the events happen, one after another, and answers the tickets that they fix.
@@ -180,5 +181,54 @@ impl Asks {
         self.pages.reserve(events.len())?;
         self.settle(events);
         Ok(woken)
+    }
+
+    /// All tickets that wait.
+    pub fn waiting(&self, alloc: Global) -> Result<Woken, Memory>
+        ensures { IfOk result (λ woken. woken ≡ fixed_among all_detached self.now.tickets 0) }
+    {
+        all_waiting(alloc, &self.tickets, &self.waiting)
+    }
+
+    /// Ends all asking: who waits is detached, no page is asked for any more, and `Complete` is sent, if it wasn't. It
+    /// answers how many were waiting, and takes no memory.
+    pub fn close(&mut self) -> u64
+        ensures woken { result ≡ length (fixed_among all_detached self.old.tickets 0) }
+        ensures pages { (kind : AskKindValue) (page : ℕ) → asked_in self.new kind page ≡ false }
+        ensures rest { self.new ≡ record self.old {
+          pages = self.new.pages;
+          packets = cond self.old.closed self.old.packets (self.old.packets ++ Complete ∷ []);
+          closed = true;
+          tickets = map (ticket_after all_detached) self.old.tickets;
+        } }
+    {
+        let woken = self.waiting.len() as u64;
+        self.pages.clear();
+        if !self.closed {
+            self.packets.push_reserved(Packet::Complete);
+            self.closed = true;
+        }
+        detach_all(&mut self.tickets, &mut self.waiting);
+        woken
+    }
+
+    /// Who holds a ticket, if it was given and isn't spent.
+    pub fn holder(&self, ticket: u64) -> Option<u32>
+        ensures { result ≡ holder_in self.now ticket }
+    {
+        let place = ticket as usize;
+        if place < self.tickets.len() && self.waiters[place].is_some() {
+            Some(self.tickets[place].who)
+        } else {
+            None
+        }
+    }
+
+    /// What has become of a ticket that somebody holds.
+    pub fn outcome(&self, ticket: u64) -> Outcome
+        requires held { is_some (holder_in self.now ticket) ≡ true }
+        ensures { (given : TicketValue) → slice_get self.now.tickets ticket ≡ Some given → result ≡ given.outcome }
+    {
+        self.tickets[ticket as usize].outcome
     }
 }
