@@ -12,6 +12,7 @@ ghost use Rattle.up_asks.specs.declared.ticket.Waiter.{Waiter as WaiterValue};
 
 use crate::event::{Event, pages_in, start_of};
 use crate::pages::Pages;
+use crate::sending::send;
 use crate::ticket::{Ticket, Waiter};
 use crate::waiting::{all_waiting, detach_all, happen, woken_by};
 use std::alloc::Global;
@@ -125,6 +126,51 @@ impl Asks {
         self.pages.missing(alloc, kind, first, count)
     }
 
+    /// Parks an access: gives it a ticket, and sends what its ask would send. There is room for all of it.
+    pub fn park(
+        &mut self,
+        who: u32,
+        kind: AskKind,
+        range: &PageRange,
+        parts: &Runs,
+        piece: Waiter,
+    ) -> u64
+        requires fresh { parts.now ≡ fresh self.old kind range.now.first range.now.count }
+        requires ticket { 0 < self.old.ticket_room }
+        requires packets { length parts.now ≤ self.old.packet_room }
+        requires change { (each : AskKindValue) → 0 < (pages_of self.old.pages each).room }
+        ensures number { result ≡ length self.old.tickets }
+        ensures pages { (each : AskKindValue) (page : ℕ) → asked_in self.new each page
+            ≡ (asking.same_kind kind each && within range.now.first range.now.count page || asked_in self.old each page) }
+        ensures room { (each : AskKindValue) → (pages_of self.old.pages each).room ≤ (pages_of self.new.pages each).room + 1 }
+        ensures rest { self.new ≡ record self.old {
+          pages = self.new.pages;
+          packets = self.old.packets ++ packets_for kind parts.now;
+          tickets = self.old.tickets ++ new_ticket who kind range.now.first range.now.count ∷ [];
+          waiters = self.old.waiters ++ Some piece ∷ [];
+          packet_room = self.old.packet_room - length parts.now;
+          ticket_room = self.old.ticket_room - 1;
+        } }
+    {
+        let number = self.tickets.len() as u64;
+        let first = start_of(range);
+        let count = pages_in(range);
+        send(&mut self.packets, kind, parts);
+        self.packet_room -= parts.len();
+        self.pages.add(kind, first, count);
+        self.tickets.push_reserved(Ticket {
+            who,
+            kind,
+            first,
+            count,
+            outcome: Outcome::Waiting,
+        });
+        self.waiters.push_reserved(Some(piece));
+        self.waiting.push_reserved(number);
+        self.ticket_room -= 1;
+        number
+    }
+
     /// How many packets weren't taken yet.
     pub fn untaken(&self) -> u64
         ensures { result ≡ length self.now.packets - self.now.taken }
@@ -230,5 +276,28 @@ impl Asks {
         ensures { (given : TicketValue) → slice_get self.now.tickets ticket ≡ Some given → result ≡ given.outcome }
     {
         self.tickets[ticket as usize].outcome
+    }
+
+    /// The access that waits under a ticket that somebody holds.
+    pub fn waiter(&self, ticket: u64) -> &Waiter
+        requires held { is_some (holder_in self.now ticket) ≡ true }
+        ensures { slice_get self.now.waiters ticket ≡ Some (Some result.now) }
+    {
+        match &self.waiters[ticket as usize] {
+            Some(waiter) => waiter,
+            None => unreachable!(),
+        }
+    }
+
+    /// Spends a ticket that somebody holds, and hands out the access that waited under it.
+    pub fn spend(&mut self, ticket: u64) -> Waiter
+        requires held { is_some (holder_in self.old ticket) ≡ true }
+        ensures waiter { slice_get self.old.waiters ticket ≡ Some (Some result) }
+        ensures new { self.new ≡ record self.old { waiters = slice_set self.old.waiters ticket None } }
+    {
+        match self.waiters[ticket as usize].take() {
+            Some(waiter) => waiter,
+            None => unreachable!(),
+        }
     }
 }
