@@ -7,7 +7,7 @@ use Rattle.up_num.specs.Asks.{is_waiting, then_outcome}
 use Rattle.up_num.specs.declared.answers.AskKind.{AskKind}
 use Rattle.up_num.specs.declared.answers.Outcome.{Outcome}
 use Rattle.up_num.specs.declared.answers.Outcome.TheVariants.{Waiting, Freed, Failed, Detached, Shrunk}
-use Rattle.up_asks.specs.Asking.{event_of, events_of, ticket_after, fixes, fixed_among}
+use Rattle.up_asks.specs.Asking.{all_detached, event_of, events_of, ticket_after, fixes, fixed_among}
 use Rattle.up_asks.specs.Keeps.{waiting_among, waits, is_fixed, still_waiting, fixed_of, put_after, settled, AllFixed}
 use Rattle.up_asks.specs.declared.event.Event.{Event}
 use Rattle.up_asks.specs.declared.ticket.Ticket.{Ticket}
@@ -174,9 +174,6 @@ and_false false = refl
 and_true : (b : Bool) → (b && true) ≡ b
 and_true true = refl
 and_true false = refl
-
-abbrev pub all_detached : AskKind → ℕ → Outcome
-all_detached kind page = Detached
 
 -- a detachment leaves nobody waiting, and fixes all who wait
 pub none_waiting : (ts : List Ticket) (n : ℕ) → waiting_among (map (ticket_after all_detached) ts) n ≡ []

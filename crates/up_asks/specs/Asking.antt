@@ -5,7 +5,7 @@ use Rattle.up_num.specs.Span.{covers}
 use Rattle.up_num.specs.declared.answers.AskKind.{AskKind}
 use Rattle.up_num.specs.declared.answers.AskKind.TheVariants.{Read, Dirty}
 use Rattle.up_num.specs.declared.answers.Outcome.{Outcome}
-use Rattle.up_num.specs.declared.answers.Outcome.TheVariants.{Waiting}
+use Rattle.up_num.specs.declared.answers.Outcome.TheVariants.{Waiting, Detached}
 use Rattle.up_num.specs.declared.answers.Packet.{Packet}
 use Rattle.up_span.specs.Runs.{runs}
 use Rattle.up_span.specs.Sets.{PageSet, holds}
@@ -77,6 +77,10 @@ fixes events ticket = is_waiting ticket.outcome && not (is_waiting (events ticke
 abbrev pub fixed_among : (AskKind → ℕ → Outcome) → List Ticket → ℕ → List ℕ
 fixed_among events [] n = []
 fixed_among events (ticket ∷ rest) n = cond (fixes events ticket) (n ∷ fixed_among events rest (n + 1)) (fixed_among events rest (n + 1))
+
+-- a detachment says the same for each kind and page
+abbrev pub all_detached : AskKind → ℕ → Outcome
+all_detached kind page = Detached
 
 -- who holds a ticket: nobody where no such ticket was given or it is spent
 abbrev pub holder_by : Option Ticket → Option (Option Waiter) → Option ℕ

@@ -1,9 +1,10 @@
 -- What the fields of asks keep: the list of tickets that wait, and the room that was taken.
-use Rattle.std.specs.Prelude.{◌≡◌, ℕ, ◌+◌, ◌≤◌, Bool, true, false, cond, Option, Some, None, List, [], ◌∷◌, length, vec_len, slice_get, slice_set}
+use Rattle.std.specs.Prelude.{◌≡◌, ℕ, ◌+◌, ◌^◌, ◌<◌, ◌≤◌, Bool, true, false, cond, Option, Some, None, List, [], ◌∷◌, length, vec_len, slice_get, slice_set}
 use Rattle.std.specs.Vec.{vec_capacity}
 use Rattle.up_num.specs.Asks.{is_waiting}
 use Rattle.up_num.specs.declared.answers.AskKind.{AskKind}
 use Rattle.up_num.specs.declared.answers.Outcome.{Outcome}
+use Rattle.up_span.specs.declared.run.Run.{Run}
 use Rattle.up_asks.specs.Asking.{ticket_after, fixes}
 use Rattle.up_asks.specs.declared.ticket.Ticket.{Ticket}
 use Rattle.up_asks.specs.declared.event.Event.{Event}
@@ -49,3 +50,8 @@ complete_place false = 1
 abbrev pub AllFixed : List Event → Type 0
 AllFixed [] = Unit {0}
 AllFixed (event ∷ rest) = (is_waiting event.outcome ≡ false) × AllFixed rest
+
+-- each run is a range of pages below 2^32
+abbrev pub AreRanges : List Run → Type 0
+AreRanges [] = Unit {0}
+AreRanges (run ∷ rest) = (0 < run.count) × ((run.first + run.count < 2 ^ 32) × AreRanges rest)

@@ -5,13 +5,16 @@ ghost use Rattle.up_num.specs.declared.answers.Outcome.TheVariants.{Detached};
 ghost use Rattle.up_num.specs.declared.answers.Packet.TheVariants.{Complete};
 ghost use Rattle.up_span.specs.Pages.{within};
 ghost use Rattle.up_span.specs.Sets.{holds};
-ghost use Rattle.up_asks.specs.Asking.{Asking, pages_of, asked_in, fresh, packets_for, new_ticket, events_of, ticket_after, fixed_among, holder_in, SameAsks, SameButTickets};
+ghost use Rattle.up_asks.specs.Asking.{Asking, all_detached, pages_of, asked_in, fresh, packets_for, new_ticket, events_of, ticket_after, fixed_among, holder_in, SameAsks, SameButTickets};
 ghost use Rattle.up_asks.specs.Keeps.{AllFixed};
+ghost use Rattle.up_asks.specs.declared.ticket.Ticket.{Ticket as TicketValue};
+ghost use Rattle.up_asks.specs.declared.ticket.Waiter.{Waiter as WaiterValue};
 
 use crate::event::{Event, pages_in, start_of};
 use crate::pages::Pages;
+use crate::sending::send;
 use crate::ticket::{Ticket, Waiter};
-use crate::waiting::{fixed_tickets, keep_waiting, settle_all};
+use crate::waiting::{all_waiting, detach_all, happen, woken_by};
 use std::alloc::Global;
 use std::marker::Model;
 use up_num::{AskKind, Memory, Outcome, Packet, PageNo, PageRange, Woken};
@@ -123,6 +126,51 @@ impl Asks {
         self.pages.missing(alloc, kind, first, count)
     }
 
+    /// Parks an access: gives it a ticket, and sends what its ask would send. There is room for all of it.
+    pub fn park(
+        &mut self,
+        who: u32,
+        kind: AskKind,
+        range: &PageRange,
+        parts: &Runs,
+        piece: Waiter,
+    ) -> u64
+        requires fresh { parts.now ≡ fresh self.old kind range.now.first range.now.count }
+        requires ticket { 0 < self.old.ticket_room }
+        requires packets { length parts.now ≤ self.old.packet_room }
+        requires change { (each : AskKindValue) → 0 < (pages_of self.old.pages each).room }
+        ensures number { result ≡ length self.old.tickets }
+        ensures pages { (each : AskKindValue) (page : ℕ) → asked_in self.new each page
+            ≡ (asking.same_kind kind each && within range.now.first range.now.count page || asked_in self.old each page) }
+        ensures room { (each : AskKindValue) → (pages_of self.old.pages each).room ≤ (pages_of self.new.pages each).room + 1 }
+        ensures rest { self.new ≡ record self.old {
+          pages = self.new.pages;
+          packets = self.old.packets ++ packets_for kind parts.now;
+          tickets = self.old.tickets ++ new_ticket who kind range.now.first range.now.count ∷ [];
+          waiters = self.old.waiters ++ Some piece ∷ [];
+          packet_room = self.old.packet_room - length parts.now;
+          ticket_room = self.old.ticket_room - 1;
+        } }
+    {
+        let number = self.tickets.len() as u64;
+        let first = start_of(range);
+        let count = pages_in(range);
+        send(&mut self.packets, kind, parts);
+        self.packet_room -= parts.len();
+        self.pages.add(kind, first, count);
+        self.tickets.push_reserved(Ticket {
+            who,
+            kind,
+            first,
+            count,
+            outcome: Outcome::Waiting,
+        });
+        self.waiters.push_reserved(Some(piece));
+        self.waiting.push_reserved(number);
+        self.ticket_room -= 1;
+        number
+    }
+
     /// How many packets weren't taken yet.
     pub fn untaken(&self) -> u64
         ensures { result ≡ length self.now.packets - self.now.taken }
@@ -153,7 +201,7 @@ impl Asks {
     pub fn waking(&self, alloc: Global, events: &[Event]) -> Result<Woken, Memory>
         ensures { IfOk result (λ woken. woken ≡ fixed_among (events_of events.now) self.now.tickets 0) }
     {
-        fixed_tickets(alloc, self.tickets.as_slice(), self.waiting.as_slice(), events)
+        woken_by(alloc, &self.tickets, &self.waiting, events)
     }
 
     /// Lets the events happen, one after another, in the room for as many changes.
@@ -164,8 +212,7 @@ impl Asks {
         ensures tickets { self.new ≡ record self.old { pages = self.new.pages; tickets = map (ticket_after (events_of events.now)) self.old.tickets } }
     {
         self.pages.take_all_out(events);
-        settle_all(self.tickets.as_mut_slice(), self.waiting.as_slice(), events);
-        keep_waiting(&mut self.waiting, self.tickets.as_slice());
+        happen(&mut self.tickets, &mut self.waiting, events);
     }
 
     /// Lets the events happen, one after another, and answers the tickets that they fix.
@@ -180,5 +227,77 @@ impl Asks {
         self.pages.reserve(events.len())?;
         self.settle(events);
         Ok(woken)
+    }
+
+    /// All tickets that wait.
+    pub fn waiting(&self, alloc: Global) -> Result<Woken, Memory>
+        ensures { IfOk result (λ woken. woken ≡ fixed_among all_detached self.now.tickets 0) }
+    {
+        all_waiting(alloc, &self.tickets, &self.waiting)
+    }
+
+    /// Ends all asking: who waits is detached, no page is asked for any more, and `Complete` is sent, if it wasn't. It
+    /// answers how many were waiting, and takes no memory.
+    pub fn close(&mut self) -> u64
+        ensures woken { result ≡ length (fixed_among all_detached self.old.tickets 0) }
+        ensures pages { (kind : AskKindValue) (page : ℕ) → asked_in self.new kind page ≡ false }
+        ensures rest { self.new ≡ record self.old {
+          pages = self.new.pages;
+          packets = cond self.old.closed self.old.packets (self.old.packets ++ Complete ∷ []);
+          closed = true;
+          tickets = map (ticket_after all_detached) self.old.tickets;
+        } }
+    {
+        let woken = self.waiting.len() as u64;
+        self.pages.clear();
+        if !self.closed {
+            self.packets.push_reserved(Packet::Complete);
+            self.closed = true;
+        }
+        detach_all(&mut self.tickets, &mut self.waiting);
+        woken
+    }
+
+    /// Who holds a ticket, if it was given and isn't spent.
+    pub fn holder(&self, ticket: u64) -> Option<u32>
+        ensures { result ≡ holder_in self.now ticket }
+    {
+        let place = ticket as usize;
+        if place < self.tickets.len() && self.waiters[place].is_some() {
+            Some(self.tickets[place].who)
+        } else {
+            None
+        }
+    }
+
+    /// What has become of a ticket that somebody holds.
+    pub fn outcome(&self, ticket: u64) -> Outcome
+        requires held { is_some (holder_in self.now ticket) ≡ true }
+        ensures { (given : TicketValue) → slice_get self.now.tickets ticket ≡ Some given → result ≡ given.outcome }
+    {
+        self.tickets[ticket as usize].outcome
+    }
+
+    /// The access that waits under a ticket that somebody holds.
+    pub fn waiter(&self, ticket: u64) -> &Waiter
+        requires held { is_some (holder_in self.now ticket) ≡ true }
+        ensures { slice_get self.now.waiters ticket ≡ Some (Some result.now) }
+    {
+        match &self.waiters[ticket as usize] {
+            Some(waiter) => waiter,
+            None => unreachable!(),
+        }
+    }
+
+    /// Spends a ticket that somebody holds, and hands out the access that waited under it.
+    pub fn spend(&mut self, ticket: u64) -> Waiter
+        requires held { is_some (holder_in self.old ticket) ≡ true }
+        ensures waiter { slice_get self.old.waiters ticket ≡ Some (Some result) }
+        ensures new { self.new ≡ record self.old { waiters = slice_set self.old.waiters ticket None } }
+    {
+        match self.waiters[ticket as usize].take() {
+            Some(waiter) => waiter,
+            None => unreachable!(),
+        }
     }
 }

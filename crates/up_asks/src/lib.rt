@@ -5,6 +5,7 @@ mod asks;
 mod event;
 pub mod laws;
 mod pages;
+mod sending;
 mod ticket;
 mod waiting;
 

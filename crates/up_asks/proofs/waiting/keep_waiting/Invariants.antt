@@ -7,7 +7,7 @@ use Rattle.up_asks.proofs.waiting.keep_waiting.Given as goal
 abbrev pub invariant-loop-place : goal.invariant-loop-place
 invariant-loop-place l = record {
   few : l.kept ≤ l.place;
-  list : take l.kept l.waiting.items ++ still_waiting l.tickets (drop l.place l.waiting.items) ≡ still_waiting l.tickets l.fn.waiting.items;
+  list : take l.kept l.waiting.items ++ still_waiting l.tickets.items (drop l.place l.waiting.items) ≡ still_waiting l.tickets.items l.fn.waiting.items;
   len : vec_len l.waiting ≡ vec_len l.fn.waiting;
   room : vec_capacity l.waiting ≡ vec_capacity l.fn.waiting;
 }
