@@ -1,18 +1,16 @@
 -- Whose a line is, by what it does.
-use Rattle.std.proofs.Common.{◌≡◌, ℕ, ◌*◌, Bool, true, false, ◌&&◌, not, cond, List, Option, Some, None, Result, Ok, Err, refl, sym, ap, subst, ◌∙◌}
+use Rattle.std.proofs.Common.{◌≡◌, ℕ, ◌*◌, true, List, Result, Ok, Err, refl, subst}
 use Rattle.up_num.specs.Span.{Span}
-use Rattle.up_words.specs.Steps.{◌>>=◌, or_why}
+use Rattle.up_words.specs.Steps.{◌>>=◌}
 use Rattle.up_words.specs.Words.{word_at}
 use Rattle.up_words.specs.Numbers.{number_between}
 use Rattle.up_words.specs.Runs.{bytes_between}
 use Rattle.up_words.specs.declared.fault.Why.{Why}
 use Rattle.up_words.proofs.Decimals.{ok_is}
-use Rattle.up_model.specs.declared.entry.Call.TheVariants as calls
 use Rattle.up_script.specs.Actions.{action_in, alone_of, fields_of, range_in, has_what_it_needs}
 use Rattle.up_script.specs.Declarations.{object_in}
 use Rattle.up_script.specs.Fit.{may_call, may_do, has_its_image}
-use Rattle.up_script.specs.Objects.{is_user, is_pager, is_evictor}
-use Rattle.up_script.specs.Verbs.{says, says_on, says_alone, is_user_range, call_over}
+use Rattle.up_script.specs.Verbs.{says, says_on, says_alone, call_over}
 use Rattle.up_script.specs.declared.declarations.Declared.{Declared}
 use Rattle.up_script.specs.declared.script.Action.{Action}
 use Rattle.up_script.specs.declared.script.Action.TheVariants as actions

@@ -1,12 +1,12 @@
 -- What every script keeps that a text spells: line by line.
-use Rattle.std.proofs.Common.{◌≡◌, ℕ, zero, suc, ◌+◌, ◌-◌, ◌<◌, ◌≤◌, ◌/◌, ◌^◌, ◌⊎◌, ⊎_elim, inl, inr, Bool, true, false, ◌&&◌, ◌||◌, eqb, leb, ltb, not, cond, get_or, is_some, List, [], ◌∷◌, ◌++◌, length, map, drop, slice_get, Option, Some, None, Result, Ok, Err, refl, sym, ap, ap₂, subst, ◌∙◌, append_assoc, append-nil, arith}
+use Rattle.std.proofs.Common.{◌≡◌, ℕ, zero, suc, ◌+◌, ◌<◌, ◌≤◌, ◌/◌, ◌^◌, ◌⊎◌, ⊎_elim, inl, inr, Bool, true, false, ◌&&◌, ◌||◌, eqb, leb, ltb, not, cond, is_some, List, [], ◌∷◌, ◌++◌, length, map, drop, slice_get, Option, Some, None, Result, Ok, Err, refl, sym, ap, ap₂, subst, ◌∙◌, append_assoc, append-nil, arith}
 use Rattle.std.specs.Prelude.{codes, IfOk}
 use Rattle.std.specs.List.{list_all, list_any, sum_by, fold, position, position_or_len}
 use Rattle.std.specs.Str.{bytes_eq}
 use Rattle.std.proofs.Math.Nat.{div-le_self, div-mul-le_self}
 use Rattle.std.proofs.lemmas.Nat.{le-div}
 use Rattle.std.proofs.lemmas.Bool.Decides.{nat_tests}
-use Rattle.std.proofs.lemmas.Bool.{and_parts, eqb-true, leb-true, ltb-true, ltb-false, lt-ltb, le-leb, not-true}
+use Rattle.std.proofs.lemmas.Bool.{and_parts, leb-true, ltb-true, ltb-false, lt-ltb, le-leb, not-true}
 use Rattle.std.proofs.lemmas.List.{map-append}
 use Rattle.std.proofs.lemmas.List.Folds.{list_all-append, list_any-append, list_any_none}
 use Rattle.std.proofs.lemmas.List.Sums.{fails_before_first, sum_by_push}
@@ -19,22 +19,19 @@ use Rattle.up_words.specs.declared.fault.ReadFault.{ReadFault}
 use Rattle.up_words.specs.declared.fault.Why.{Why}
 use Rattle.up_words.specs.declared.fault.Why.TheVariants as why
 use Rattle.up_words.proofs.Decimals.{then_ok, ok_is, both, only}
-use Rattle.up_script.specs.Actions.{act, actor_in, action_in, alone_of, fields_of, range_in, read_fields, object_of, is_bound, kind_of, may_act, has_left, has_what_it_needs, bytes_of, with_line}
-use Rattle.up_script.specs.Declarations.{is_first, may_loan, may_level, may_object, nothing_declared, with_loan, with_levels, frames_line, loan_line, levels_line, new_name, limit_in, image_in, with_object, object_line, object_in, bind_step, may_serve, with_actor, bound_line, first_numbers, evictor_line, binds, actor_line, is_trap_word, declaration_line, with_all_counted, is_whole}
+use Rattle.up_script.specs.Actions.{act, actor_in, action_in, object_of, is_bound, kind_of, may_act, has_left, has_what_it_needs, bytes_of, with_line}
+use Rattle.up_script.specs.Declarations.{is_first, may_loan, may_level, may_object, nothing_declared, frames_line, loan_line, levels_line, new_name, limit_in, image_in, with_object, object_line, object_in, bind_step, may_serve, with_actor, bound_line, first_numbers, evictor_line, binds, actor_line, is_trap_word, declaration_line, with_all_counted, is_whole}
 use Rattle.up_script.specs.Fit.{are_unlike, are_fit_frames, names_of, name_in, images_of, names_its_image, is_fit_actor, may_do, has_its_image, is_fit_line, Fits, SpellsFitting}
-use Rattle.up_script.specs.Objects.{object_named, actor_named, image_named, is_image, has_image, is_among, is_imaged, counted, count_step, with_counts, is_user, is_served}
+use Rattle.up_script.specs.Objects.{object_named, actor_named, image_named, is_image, has_image, is_among, counted, count_step, with_counts, is_served}
 use Rattle.up_script.specs.Reading.{nothing_played, declaring, stage_step, is_skipped, content, line_step, script_in, ended, last_step, script_of}
 use Rattle.up_script.specs.Sound.{is_within}
 use Rattle.up_script.specs.Verbs.{verb_of, says}
 use Rattle.up_script.specs.declared.declarations.Declared.{Declared}
 use Rattle.up_script.specs.declared.declarations.Last.{Last}
 use Rattle.up_script.specs.declared.declarations.Last.TheVariants as last
-use Rattle.up_script.specs.declared.declarations.Stock.{Stock}
 use Rattle.up_script.specs.declared.played.Played.{Played}
 use Rattle.up_script.specs.declared.reading.Stage.{Stage}
 use Rattle.up_script.specs.declared.reading.Stage.TheVariants as stages
-use Rattle.up_script.specs.declared.script.Action.{Action}
-use Rattle.up_script.specs.declared.script.Action.TheVariants as actions
 use Rattle.up_script.specs.declared.script.ActorLine.{ActorLine}
 use Rattle.up_script.specs.declared.script.Kind.{Kind}
 use Rattle.up_script.specs.declared.script.Kind.TheVariants.{User, Pager, Worker, Evictor}
