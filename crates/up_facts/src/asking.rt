@@ -1,4 +1,4 @@
-ghost use Rattle.std.specs.Prelude.{◌≡◌, ◌+◌, ◌<◌, ◌≤◌, ◌^◌, ◌∷◌, ◌&&◌, ◌||◌, None, cond, option_map, reverse};
+ghost use Rattle.std.specs.Prelude.{◌≡◌, ◌+◌, ◌<◌, ◌≤◌, ◌^◌, ◌&&◌, ◌||◌, None, cond, option_map, reverse};
 ghost use Rattle.up_num.specs.declared.answers.Outcome.TheVariants.{Waiting as OutcomeWaiting};
 ghost use Rattle.up_model.specs.declared.entry.Call.TheVariants.{Resize};
 ghost use Rattle.up_model.specs.Asks as asking;
