@@ -1,6 +1,6 @@
 use crate::{Asks, Event, Waiter};
 use std::test::Fail;
-use up_num::{AskKind, Bytes, Code, Outcome, Packet, PageNo, PageRange};
+use up_num::{AskKind, Bytes, Code, Memory, Outcome, Packet, PageNo, PageRange};
 
 fn reading(rt: &HostRuntime, page: u32) -> Waiter {
     Waiter {
@@ -23,24 +23,38 @@ fn pages(first: u32, count: u32) -> PageRange
 /// Three who wait: for pages 2 to 5 and 0 to 7 to be read, and to make page 4 dirty.
 fn three_asks(rt: &HostRuntime) -> Result<Asks, Fail> {
     let mut asks = Asks::new(rt.alloc())?;
-    let first = asks.ask(rt.alloc(), 1, AskKind::Read, &pages(2, 4), reading(rt, 2));
-    assert_eq!(rt; first.ok(), Some((0, 1)));
-    let second = asks.ask(rt.alloc(), 2, AskKind::Read, &pages(0, 8), reading(rt, 0));
-    assert_eq!(rt; second.ok(), Some((1, 2)));
-    let third = asks.ask(rt.alloc(), 3, AskKind::Dirty, &pages(4, 1), reading(rt, 4));
-    assert_eq!(rt; third.ok(), Some((2, 1)));
+    park(rt, &mut asks, 1, AskKind::Read, &pages(2, 4))?;
+    park(rt, &mut asks, 2, AskKind::Read, &pages(0, 8))?;
+    park(rt, &mut asks, 3, AskKind::Dirty, &pages(4, 1))?;
     Ok(asks)
+}
+
+fn park(
+    rt: &HostRuntime,
+    asks: &mut Asks,
+    who: u32,
+    kind: AskKind,
+    range: &PageRange,
+) -> Result<(u64, u32), Memory> {
+    let piece = reading(rt, range.first);
+    asks.ask(rt.alloc(), who, kind, range, piece)
+        .map_err(|failed| failed.0)
 }
 
 #[test]
 fn a_later_ask_sends_what_is_not_asked_yet(rt: HostRuntime) -> Result<(), Fail> {
     let mut asks = three_asks(&rt)?;
-    assert_eq!(rt; asks.untaken(), 4);
+    assert_eq!(rt;
+        park(&rt, &mut asks, 1, AskKind::Read, &pages(7, 3))?,
+        (3, 1)
+    );
+    assert_eq!(rt; asks.untaken(), 5);
     let sent = [
         Packet::Read(pages(2, 4)),
         Packet::Read(pages(0, 2)),
         Packet::Read(pages(6, 2)),
         Packet::Dirty(pages(4, 1)),
+        Packet::Read(pages(8, 2)),
     ];
     for packet in sent {
         assert_eq!(rt; asks.packet(), Some(packet));
@@ -69,6 +83,8 @@ fn events_fix_those_who_wait_for_their_pages(rt: HostRuntime) -> Result<(), Fail
     let woken = asks.resolve(rt.alloc(), events.as_slice())?;
     assert!(rt; woken.as_slice() == [1, 2].as_slice());
     assert_eq!(rt; asks.holder(2), Some(3));
+    assert_eq!(rt; asks.outcome(2), Outcome::Failed(Code::Io));
+    assert!(rt; asks.waiter(2).last == PageNo(4));
     let failed = asks.spend(2);
     assert_eq!(rt; failed.off, 16384);
     assert_eq!(rt; asks.holder(2), None);
