@@ -68,11 +68,12 @@ after_same f t h = ap (λ (o : Outcome). with_outcome t o) (then_first t.outcome
 pub same_events : (some others : AskKind → ℕ → Outcome) → ((kind : AskKind) (page : ℕ) → some kind page ≡ others kind page) → (tickets : List Ticket) (n : ℕ) →
     (map (ticket_after some) tickets ≡ map (ticket_after others) tickets) × (fixed_among some tickets n ≡ fixed_among others tickets n)
 same_events f g h [] n = (refl, refl)
-same_events f g h (t ∷ ts) n =
-    (ap (λ (o : Outcome). record t { outcome = then_outcome t.outcome o } ∷ map (ticket_after f) ts) (h t.kind t.first)
-    ∙ ap (λ xs. ticket_after g t ∷ xs) (same_events f g h ts (n + 1)).0,
-    ap (λ (o : Outcome). cond (is_waiting t.outcome && not (is_waiting o)) (n ∷ fixed_among f ts (n + 1)) (fixed_among f ts (n + 1))) (h t.kind t.first)
-    ∙ ap (λ xs. cond (fixes g t) (n ∷ xs) xs) (same_events f g h ts (n + 1)).1)
+same_events f g h (t ∷ ts) n = (
+  ap (λ (o : Outcome). record t { outcome = then_outcome t.outcome o } ∷ map (ticket_after f) ts) (h t.kind t.first)
+      ∙ ap (λ xs. ticket_after g t ∷ xs) (same_events f g h ts (n + 1)).0,
+  ap (λ (o : Outcome). cond (is_waiting t.outcome && not (is_waiting o)) (n ∷ fixed_among f ts (n + 1)) (fixed_among f ts (n + 1))) (h t.kind t.first)
+      ∙ ap (λ xs. cond (fixes g t) (n ∷ xs) xs) (same_events f g h ts (n + 1)).1,
+)
 
 get_here : (ps : List Ticket) (t : Ticket) (ts : List Ticket) → slice_get (ps ++ t ∷ ts) (length ps) ≡ Some t
 get_here [] t ts = refl
@@ -87,16 +88,16 @@ settled_by : (f : AskKind → ℕ → Outcome) (ps ts : List Ticket) → settled
 settled_by f ps [] = refl
 settled_by f ps (t ∷ ts) = elim (is_waiting t.outcome) as (λ b. is_waiting t.outcome ≡ b →
     settled f (ps ++ t ∷ ts) (cond b (length ps ∷ waiting_among ts (length ps + 1)) (waiting_among ts (length ps + 1))) ≡ ps ++ ticket_after f t ∷ map (ticket_after f) ts) [
-  | true ↦ λ h. ap (λ o. settled f (put_after f (ps ++ t ∷ ts) (length ps) o) (waiting_among ts (length ps + 1))) (get_here ps t ts)
-    ∙ ap (λ xs. settled f xs (waiting_among ts (length ps + 1))) (set_at ps t ts (ticket_after f t) (length ps) refl)
-    ∙ moved (λ xs n. settled f xs (waiting_among ts n)) ps (ticket_after f t) ts
-    ∙ settled_by f (ps ++ ticket_after f t ∷ []) ts
-    ∙ append_assoc ps (ticket_after f t ∷ []) (map (ticket_after f) ts)
-  | false ↦ λ h. moved (λ xs n. settled f xs (waiting_among ts n)) ps t ts
-    ∙ settled_by f (ps ++ t ∷ []) ts
-    ∙ append_assoc ps (t ∷ []) (map (ticket_after f) ts)
-    ∙ ap (λ (x : Ticket). ps ++ x ∷ map (ticket_after f) ts) (sym (after_same f t h))
-] refl
+      | true ↦ λ h. ap (λ o. settled f (put_after f (ps ++ t ∷ ts) (length ps) o) (waiting_among ts (length ps + 1))) (get_here ps t ts)
+          ∙ ap (λ xs. settled f xs (waiting_among ts (length ps + 1))) (set_at ps t ts (ticket_after f t) (length ps) refl)
+          ∙ moved (λ xs n. settled f xs (waiting_among ts n)) ps (ticket_after f t) ts
+          ∙ settled_by f (ps ++ ticket_after f t ∷ []) ts
+          ∙ append_assoc ps (ticket_after f t ∷ []) (map (ticket_after f) ts)
+      | false ↦ λ h. moved (λ xs n. settled f xs (waiting_among ts n)) ps t ts
+          ∙ settled_by f (ps ++ t ∷ []) ts
+          ∙ append_assoc ps (t ∷ []) (map (ticket_after f) ts)
+          ∙ ap (λ (x : Ticket). ps ++ x ∷ map (ticket_after f) ts) (sym (after_same f t h))
+    ] refl
 
 still_later : (f : AskKind → ℕ → Outcome) (ps ts : List Ticket) (t : Ticket) →
     still_waiting ((ps ++ ticket_after f t ∷ []) ++ map (ticket_after f) ts) (waiting_among ts (length (ps ++ ticket_after f t ∷ [])))

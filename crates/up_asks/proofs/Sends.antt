@@ -37,9 +37,9 @@ few_by test p c zero = let h : length (closed p c) ≤ c = closed_few p c in ome
 few_by test p c (suc n) = elim (test p) as (λ b. length (cond b (runs test (p + 1) (c + 1) n) (closed p c ++ runs test (p + 1) 0 n)) ≤ c + suc n) [
   | true ↦ let h : length (runs test (p + 1) (c + 1) n) ≤ c + 1 + n = few_by test (p + 1) (c + 1) n in omega arith
   | false ↦ let h : length (closed p c) ≤ c = closed_few p c in
-    let g : length (runs test (p + 1) 0 n) ≤ 0 + n = few_by test (p + 1) 0 n in
-    let both : length (closed p c ++ runs test (p + 1) 0 n) ≡ length (closed p c) + length (runs test (p + 1) 0 n) = length-append (closed p c) (runs test (p + 1) 0 n) in
-    omega arith
+      let g : length (runs test (p + 1) 0 n) ≤ 0 + n = few_by test (p + 1) 0 n in
+      let both : length (closed p c ++ runs test (p + 1) 0 n) ≡ length (closed p c) + length (runs test (p + 1) 0 n) = length-append (closed p c) (runs test (p + 1) 0 n) in
+      omega arith
 ]
 
 pub runs_are_few : (test : ℕ → Bool) (first count : ℕ) (parts : List Run) → parts ≡ runs test first 0 count → length parts ≤ count

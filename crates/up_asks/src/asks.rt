@@ -117,16 +117,68 @@ impl Asks {
         Ok(())
     }
 
-    /// What an ask for these pages would send.
+    /// What an ask for these pages would send: a packet for each run.
+    #[tactic(auto, using(crate::proofs::Sends::runs_are_few))]
     pub fn fresh(&self, alloc: Global, kind: AskKind, range: &PageRange) -> Result<Runs, Memory>
-        ensures { IfOk result (λ parts. parts ≡ fresh self.now kind range.now.first range.now.count) }
+        ensures parts { IfOk result (λ parts. parts ≡ fresh self.now kind range.now.first range.now.count) }
+        ensures few { IfOk result (λ parts. length parts < 2 ^ 32) }
     {
         let first = start_of(range);
         let count = pages_in(range);
-        self.pages.missing(alloc, kind, first, count)
+        let parts = self.pages.missing(alloc, kind, first, count)?;
+        Ok(parts)
     }
 
-    /// Parks an access: gives it a ticket, and sends what its ask would send. There is room for all of it.
+    /// Parks an access: gives it a ticket, and sends the packets that ask for what isn't asked for already. It answers the
+    /// ticket and how many packets were sent. After want of memory the access comes back.
+    pub fn ask(
+        &mut self,
+        alloc: Global,
+        who: u32,
+        kind: AskKind,
+        range: &PageRange,
+        piece: Waiter,
+    ) -> Result<(u64, u32), (Memory, Waiter)>
+        ensures ticket { IfOk result (λ sent. sent.0 ≡ length self.old.tickets) }
+        ensures packets { IfOk result (λ sent. sent.1 ≡ length (fresh self.old kind range.now.first range.now.count)) }
+        ensures pages { OnOk result ((each : AskKindValue) (page : ℕ) → asked_in self.new each page
+            ≡ (asking.same_kind kind each && within range.now.first range.now.count page || asked_in self.old each page)) }
+        ensures rest { OnOk result (self.new ≡ record self.old {
+          pages = self.new.pages;
+          packets = self.old.packets ++ packets_for kind (fresh self.old kind range.now.first range.now.count);
+          tickets = self.old.tickets ++ new_ticket who kind range.now.first range.now.count ∷ [];
+          waiters = self.old.waiters ++ Some piece ∷ [];
+          packet_room = self.new.packet_room;
+          ticket_room = self.new.ticket_room;
+        }) }
+        ensures err { OnErr result (SameAsks self.old self.new) }
+        ensures back { IfErr result (λ failed. failed.1 ≡ piece) }
+    {
+        match self.prepare(alloc, kind, range) {
+            Ok(parts) => {
+                let sent = parts.len() as u32;
+                let ticket = self.park(who, kind, range, &parts, piece);
+                Ok((ticket, sent))
+            }
+            Err(memory) => Err((memory, piece)),
+        }
+    }
+
+    /// What an ask for these pages would send, with room for it.
+    fn prepare(&mut self, alloc: Global, kind: AskKind, range: &PageRange) -> Result<Runs, Memory>
+        ensures same { SameAsks self.old self.new }
+        ensures parts { IfOk result (λ parts. parts ≡ fresh self.old kind range.now.first range.now.count) }
+        ensures few { IfOk result (λ parts. length parts < 2 ^ 32) }
+        ensures packets { IfOk result (λ parts. length parts ≤ self.new.packet_room) }
+        ensures ticket { OnOk result (0 < self.new.ticket_room) }
+        ensures change { OnOk result ((each : AskKindValue) → 0 < (pages_of self.new.pages each).room) }
+    {
+        let parts = self.fresh(alloc, kind, range)?;
+        self.reserve(parts.len() as u32, 1)?;
+        Ok(parts)
+    }
+
+    /// Parks an access: gives it a ticket, and sends `parts`, what its ask would send. There is room for all of it.
     pub fn park(
         &mut self,
         who: u32,

@@ -58,7 +58,13 @@ impl Pages {
     }
 
     /// The maximal runs of these pages that aren't asked for with this kind.
-    pub(crate) fn missing(&self, alloc: Global, kind: AskKind, first: u32, count: u32) -> Result<Runs, Memory>
+    pub(crate) fn missing(
+        &self,
+        alloc: Global,
+        kind: AskKind,
+        first: u32,
+        count: u32,
+    ) -> Result<Runs, Memory>
         requires { first + count < 2 ^ 32 }
         ensures { IfOk result (λ parts. parts ≡ maximal_runs (λ page. not (holds (pages_of self.now kind).runs page)) first 0 count) }
     {

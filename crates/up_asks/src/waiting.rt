@@ -61,7 +61,11 @@ pub(crate) fn woken_by(
 
 /// All tickets that wait.
 #[tactic(auto, using(crate::proofs::Events::detached_all))]
-pub(crate) fn all_waiting(alloc: Global, tickets: &Vec<Ticket>, waiting: &Vec<u64>) -> Result<Woken, Memory>
+pub(crate) fn all_waiting(
+    alloc: Global,
+    tickets: &Vec<Ticket>,
+    waiting: &Vec<u64>,
+) -> Result<Woken, Memory>
     requires { waiting.now.items ≡ waiting_among tickets.now.items 0 }
     ensures { IfOk result (λ woken. woken ≡ fixed_among all_detached tickets.now.items 0) }
 {

@@ -7,7 +7,7 @@ use Rattle.up_asks.proofs.asks.Asks.close.Goals as goal
 pub returns-clause-woken : goal.returns-clause-woken
 returns-clause-woken c =
     let all : length (fixed_among all_detached c.args.self.now.tickets 0) ≡ length c.self.inside.waiting.items
-        = ap (λ (a : Asking). length (fixed_among all_detached a.tickets 0)) (sym c.self.view_is)
-        ∙ ap length (detached_all c.self.inside.tickets.items 0 ∙ sym c.self.invariant.listed) in
+    = ap (λ (a : Asking). length (fixed_among all_detached a.tickets 0)) (sym c.self.view_is)
+    ∙ ap length (detached_all c.self.inside.tickets.items 0 ∙ sym c.self.invariant.listed) in
     let len : vec_len c.self.inside.waiting ≡ length c.self.inside.waiting.items = search rules in
     c.len-woken.ensures ∙ len ∙ sym all
