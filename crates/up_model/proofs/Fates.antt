@@ -61,7 +61,7 @@ then_cases Waiting later fate is = inr (refl, is)
 then_cases first later fate is = inl is
 
 -- nothing becomes of a ticket that nobody holds
-waits_unowned : (birth : Birth) (h : List Entry) (t : ℕ) → owner h t ≡ None → waits birth h t ≡ None
+pub waits_unowned : (birth : Birth) (h : List Entry) (t : ℕ) → owner h t ≡ None → waits birth h t ≡ None
 waits_unowned birth [] t none = refl
 waits_unowned birth (e ∷ before) t none =
     elim (blocks e.reply t) as (λ b. cond b (Some e.who) (owner before t) ≡ None → cond b (option_map (want birth before) (attempt before e)) (waits birth before t) ≡ None) [

@@ -25,6 +25,8 @@ mod ComputedStates
 mod ComputedAsks
 mod ComputedOrder
 mod ComputedReplies
+mod ComputedTests
+mod RowsSurvival
 pub mod Fates
 pub mod Refusing
 pub mod Resting
@@ -37,3 +39,9 @@ pub mod Kept
 pub mod Touching
 pub mod Resolved
 mod Same
+pub mod Lasting
+pub mod Surviving
+pub mod ReadBytes
+pub mod ReadBack
+pub mod Ordered
+pub mod Meant

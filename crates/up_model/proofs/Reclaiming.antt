@@ -115,3 +115,9 @@ evicts_unpinned birth e before legal p is = (evicted_page birth e before legal p
 
 pub evicts_unprotected : (birth : Birth) (e : Entry) (before : List Entry) → Legal birth (e ∷ before) → (p : ℕ) → evicts e p ≡ true → always birth before p ≡ false
 evicts_unprotected birth e before legal p is = (evicted_page birth e before legal p is).unprotected
+
+pub evicts_no_zeros : (birth : Birth) (e : Entry) (before : List Entry) → Legal birth (e ∷ before) → (p : ℕ) → evicts e p ≡ true → plain birth before p ≡ false
+evicts_no_zeros birth e before legal p is = (evicted_page birth e before legal p is).not_plain
+
+pub evicts_unasked : (birth : Birth) (e : Entry) (before : List Entry) → Legal birth (e ∷ before) → (p : ℕ) → evicts e p ≡ true → asked birth before DirtyAsk p ≡ false
+evicts_unasked birth e before legal p is = (evicted_page birth e before legal p is).unasked

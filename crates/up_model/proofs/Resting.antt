@@ -68,7 +68,7 @@ was_within (Resize pages) r n p stays low =
     ] stays low
 was_within _ r n p stays low = low
 
-cut_beyond : (call : Call) (r : Reply) (n p : ℕ) → (asks_to_cut call n p && accepts r) ≡ true → p < resized call r n → ⊥
+pub cut_beyond : (call : Call) (r : Reply) (n p : ℕ) → (asks_to_cut call n p && accepts r) ≡ true → p < resized call r n → ⊥
 cut_beyond (Resize pages) r n p is low =
     elim (accepts r) as (λ b. ((nat_lt p n && nat_le pages p) && b) ≡ true → p < cond b pages n → ⊥) [
       | true ↦ λ q below. grind (arith, nat_tests)

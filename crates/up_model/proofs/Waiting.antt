@@ -10,7 +10,7 @@ use Rattle.up_model.specs.declared.entry.Call.{Call}
 use Rattle.up_model.specs.declared.entry.Call.TheVariants.{Read, Write, Retry}
 
 -- what a proper call attempts lies within a page, where that holds of what waits already
-attempt_within : (before : List Entry) (who : ℕ) (call : Call) (a : Access) → ((t : ℕ) (x : Access) → parked before t ≡ Some x → within_page x.off x.len ≡ true) →
+pub attempt_within : (before : List Entry) (who : ℕ) (call : Call) (a : Access) → ((t : ℕ) (x : Access) → parked before t ≡ Some x → within_page x.off x.len ≡ true) →
     proper before who call ≡ true → attempt_of (parked before) call ≡ Some a → within_page a.off a.len ≡ true
 attempt_within before who (Read piece last brought) a held p is =
     let same : record { off = piece.off; len = piece.len; last = last.0; bytes = None } ≡ a = cc in

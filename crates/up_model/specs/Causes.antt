@@ -2,6 +2,7 @@
 use Rattle.std.specs.Prelude.{◌≡◌, ℕ, ◌+◌, ◌*◌, ◌<◌, ◌||◌, ◌⊎◌, Bool, true, false, Some, is_some, List, ◌∷◌, ◌++◌}
 use Rattle.up_num.specs.Span.{Span, covers}
 use Rattle.up_num.specs.declared.answers.Code.{Code}
+use Rattle.up_num.specs.declared.answers.AskKind.TheVariants.{Dirty as DirtyAsk}
 use Rattle.up_num.specs.declared.answers.Outcome.{Outcome}
 use Rattle.up_num.specs.declared.answers.Outcome.TheVariants.{Shrunk, Failed}
 use Rattle.up_num.specs.declared.answers.Refusal.TheVariants as refusal
@@ -12,6 +13,7 @@ use Rattle.up_model.specs.Value.{value, there}
 use Rattle.up_model.specs.States.{clean, plain}
 use Rattle.up_model.specs.Roles.{detached}
 use Rattle.up_model.specs.Pins.{pins, always, loaned}
+use Rattle.up_model.specs.Asks.{asked}
 use Rattle.up_model.specs.Tickets.{retries, outcome}
 use Rattle.up_model.specs.Reply.{is_scan}
 use Rattle.up_model.specs.Legal.{Legal}
@@ -40,6 +42,14 @@ EvictsUnpinned = (birth : Birth) (e : Entry) (before : List Entry) → Legal bir
 -- and it wasn't protected
 abbrev pub EvictsUnprotected : Type 0
 EvictsUnprotected = (birth : Birth) (e : Entry) (before : List Entry) → Legal birth (e ∷ before) → (p : ℕ) → evicts e p ≡ true → always birth before p ≡ false
+
+-- it was no zero page
+abbrev pub EvictsNoZeros : Type 0
+EvictsNoZeros = (birth : Birth) (e : Entry) (before : List Entry) → Legal birth (e ∷ before) → (p : ℕ) → evicts e p ≡ true → plain birth before p ≡ false
+
+-- and nobody waited to make it dirty
+abbrev pub EvictsUnasked : Type 0
+EvictsUnasked = (birth : Birth) (e : Entry) (before : List Entry) → Legal birth (e ∷ before) → (p : ℕ) → evicts e p ≡ true → asked birth before DirtyAsk p ≡ false
 
 -- an entry of this kind stands in the journal, after the one that parked this access under the ticket
 pub record SinceParked (kind : List Entry → Entry → Type 0) (h : List Entry) (ticket : ℕ) (a : Access) : Type 0 where

@@ -24,3 +24,7 @@ pub mod Standing
 pub mod Positions
 pub mod Laws
 pub mod Causes
+pub mod Lasts
+pub mod Survival
+pub mod Ordering
+pub mod Meanings

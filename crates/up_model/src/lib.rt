@@ -6,8 +6,11 @@ pub mod causes;
 mod entry;
 pub mod laws;
 mod log;
+pub mod meanings;
+pub mod ordering;
 pub mod positions;
 pub mod standing;
+pub mod survival;
 #[cfg(test)]
 mod tests;
 
