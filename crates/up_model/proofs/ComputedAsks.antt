@@ -1,4 +1,4 @@
--- Pages of ranges, what is asked of the pager, and what becomes of those who wait, computed at small journals.
+-- What is asked of the pager, and what becomes of those who wait, computed at small journals.
 use Rattle.std.specs.Prelude.{◌≡◌, ◌==◌, not, true, false, cond, Some, None, [], ◌∷◌, refl}
 use Rattle.up_num.specs.declared.answers.AskKind.TheVariants.{Read as ReadAsk, Dirty as DirtyAsk}
 use Rattle.up_num.specs.declared.answers.Outcome.TheVariants.{Freed, Failed, Shrunk, Detached as DetachedOutcome, Waiting as NothingYet}
@@ -12,58 +12,11 @@ use Rattle.up_model.proofs.RowsWaiting.{retried_too_early, asked_and_supplied, o
 use Rattle.up_model.proofs.RowsWriteback.{written_since_its_begin, asked_before_dirty, emptied_under_a_write}
 use Rattle.up_model.specs.Asks.{lacks, want, wanted, resolves, resolved, asked}
 use Rattle.up_model.specs.Packets.{packets, requested, sent, taken}
-use Rattle.up_model.specs.Pages.{first_page, count_pages, list_pages, run_of, runs, kind_runs}
 use Rattle.up_model.specs.Positions.{first_of}
 use Rattle.up_model.specs.Tickets.{next_ticket, owner, waits, spent, outcome, wakes, woken}
 use Rattle.up_model.specs.Value.{value}
 use Rattle.up_model.specs.declared.entry.Call.TheVariants as calls
 use Rattle.up_model.specs.declared.entry.Reply.TheVariants as answer
-
--- the first, how many, and which pages pass a test, and how long the run is that starts there
-first_page-found : first_page (λ p. p == 2) 0 4 ≡ Some 2
-first_page-found = refl
-
-first_page-too_far : first_page (λ p. p == 2) 0 2 ≡ None
-first_page-too_far = refl
-
-count_pages-some : count_pages (λ p. not (p == 2)) 0 5 ≡ 4
-count_pages-some = refl
-
-count_pages-none : count_pages (λ p. false) 0 5 ≡ 0
-count_pages-none = refl
-
-list_pages-some : list_pages (λ p. not (p == 2)) 1 3 ≡ 1 ∷ 3 ∷ []
-list_pages-some = refl
-
-list_pages-none : list_pages (λ p. false) 1 3 ≡ []
-list_pages-none = refl
-
-run_of-stops : run_of (λ p. not (p == 2)) 0 5 ≡ 2
-run_of-stops = refl
-
-run_of-ends : run_of (λ p. not (p == 2)) 3 5 ≡ 5
-run_of-ends = refl
-
-run_of-none : run_of (λ p. not (p == 2)) 2 5 ≡ 0
-run_of-none = refl
-
-runs-two : runs (λ p. not (p == 2)) 0 0 5 ≡ range 0 2 ∷ range 3 2 ∷ []
-runs-two = refl
-
-runs-with_those_before : runs (λ p. not (p == 2)) 1 1 4 ≡ range 0 2 ∷ range 3 2 ∷ []
-runs-with_those_before = refl
-
-runs-none : runs (λ p. false) 0 0 5 ≡ []
-runs-none = refl
-
-kind_runs-three : kind_runs (λ p. cond (p == 0) None (Some (p == 3))) 0 None 0 5 ≡ run_of_bytes 1 2 ∷ run_of_zeros 3 1 ∷ run_of_bytes 4 1 ∷ []
-kind_runs-three = refl
-
-kind_runs-parted : kind_runs (λ p. cond (p == 2) None (Some false)) 0 None 0 5 ≡ run_of_bytes 0 2 ∷ run_of_bytes 3 2 ∷ []
-kind_runs-parted = refl
-
-kind_runs-none : kind_runs (λ p. None) 0 None 0 5 ≡ []
-kind_runs-none = refl
 
 -- what an access asks for, up to the page where it ends and within the object, as far as pages lack the same
 lacks-absent : lacks (free 1) [] ReadAsk 0 ≡ true

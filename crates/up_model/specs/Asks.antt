@@ -1,6 +1,7 @@
 -- What an access that must wait asks of the pager, and which pages are asked for.
 use Rattle.std.specs.Prelude.{ℕ, ◌+◌, ◌-◌, min, ◌&&◌, ◌||◌, not, Bool, true, false, cond, Option, Some, None, option_map, List, [], ◌∷◌, nat_le, nat_lt}
 use Rattle.up_num.specs.Span.{covers}
+pub use Rattle.up_num.specs.Asks.{Ask, same_kind, asks, is_waiting}
 use Rattle.up_num.specs.declared.answers.AskKind.{AskKind}
 use Rattle.up_num.specs.declared.answers.AskKind.TheVariants.{Read as ReadAsk, Dirty as DirtyAsk}
 use Rattle.up_num.specs.declared.answers.Outcome.{Outcome}
@@ -15,17 +16,6 @@ use Rattle.up_model.specs.declared.entry.Birth.{Birth}
 use Rattle.up_model.specs.declared.entry.Entry.{Entry}
 use Rattle.up_model.specs.declared.entry.Call.{Call}
 use Rattle.up_model.specs.declared.entry.Call.TheVariants.{Supply, Fail, Dirty, End, Resize, Zero, Detach, Leave}
-
--- what is asked of the pager: pages to read, or leave to make pages dirty
-pub record Ask : Type 0 where
-  pub kind : AskKind
-  pub first : ℕ
-  pub count : ℕ
-
-abbrev pub same_kind : AskKind → AskKind → Bool
-same_kind ReadAsk ReadAsk = true
-same_kind DirtyAsk DirtyAsk = true
-same_kind _ _ = false
 
 -- the page is one that an ask of this kind is for: not there, or there and not dirty
 abbrev pub lacks : Birth → List Entry → AskKind → ℕ → Bool
@@ -48,11 +38,6 @@ want birth h a = record {
 abbrev pub wanted : Birth → List Entry → Entry → Option Ask
 wanted birth before e = cond (is_blocked e.reply) (option_map (want birth before) (attempt before e)) None
 
--- the page is among those asked for with this kind
-abbrev pub asks : Option Ask → AskKind → ℕ → Bool
-asks None k p = false
-asks (Some a) k p = same_kind a.kind k && (nat_le a.first p && nat_lt p (a.first + a.count))
-
 -- what an accepted call makes of those who wait for page p with a kind. A supply frees the readers; a dirty call, and an end
 -- that empties the page, free those who wait to make it dirty. The rest concerns both: a zero call frees, a fail fails
 -- with its code, a resize that cuts the page off, and a call that detaches the object. Waiting says: nothing.
@@ -70,10 +55,6 @@ resolves birth h _ k p = Waiting
 -- what an entry makes of them: nothing where it wasn't accepted
 abbrev pub resolved : Birth → List Entry → Entry → AskKind → ℕ → Outcome
 resolved birth before e k p = cond (accepts e.reply) (resolves birth before e.call k p) Waiting
-
-abbrev pub is_waiting : Outcome → Bool
-is_waiting Waiting = true
-is_waiting _ = false
 
 -- the page is asked for with this kind: of the entries that ask for it and those that resolve it the last one asks
 abbrev pub asked : Birth → List Entry → AskKind → ℕ → Bool

@@ -14,7 +14,8 @@ use Rattle.up_model.specs.Value.{there, bytes_from}
 use Rattle.up_model.specs.States.{plain, unclean, dirty}
 use Rattle.up_model.specs.Roles.{detached, in_role}
 use Rattle.up_model.specs.Pins.{pins, loaned}
-use Rattle.up_model.specs.Pages.{first_page, count_pages, list_pages, page_number, kind_runs}
+use Rattle.up_span.specs.declared.run.KindRun.{KindRun}
+use Rattle.up_model.specs.Pages.{first_page, count_pages, list_pages, page_number, dirty_range, kind_runs}
 use Rattle.up_model.specs.Use.{newest_epoch}
 use Rattle.up_model.specs.Order.{loose, order}
 use Rattle.up_model.specs.Modified.{modified}
@@ -160,9 +161,13 @@ is_full_of_pins h p = nat_le 31 (pins h p)
 abbrev pub unclean_kind : Birth → List Entry → ℕ → Option Bool
 unclean_kind birth h p = cond (unclean birth h p) (Some (plain birth h p)) None
 
+-- a run of unclean pages that are all zero pages, or none of them
+abbrev pub dirty_run : KindRun → DirtyRange
+dirty_run run = dirty_range run.first run.count run.kind
+
 -- the maximal runs of unclean pages of one kind in a range
 abbrev pub unclean_runs : Birth → List Entry → Span → List DirtyRange
-unclean_runs birth h range = kind_runs (unclean_kind birth h) range.first None 0 range.count
+unclean_runs birth h range = map dirty_run (kind_runs (unclean_kind birth h) range.first None 0 range.count)
 
 -- the first of the runs, and how many they are
 abbrev pub ranges_reply : ℕ → List DirtyRange → Reply

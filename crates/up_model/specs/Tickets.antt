@@ -3,6 +3,7 @@ use Rattle.std.specs.Prelude.{ℕ, ◌+◌, ◌==◌, ◌&&◌, ◌||◌, not, B
 use Rattle.up_num.specs.declared.answers.AskKind.{AskKind}
 use Rattle.up_num.specs.declared.answers.Outcome.{Outcome}
 use Rattle.up_num.specs.declared.answers.Outcome.TheVariants.{Waiting}
+pub use Rattle.up_num.specs.Asks.{then_outcome, resolved_for}
 use Rattle.up_model.specs.Attempts.{is_blocked, blocks, attempt}
 use Rattle.up_model.specs.Asks.{Ask, want, resolves, resolved, is_waiting}
 use Rattle.up_model.specs.declared.entry.Birth.{Birth}
@@ -41,16 +42,6 @@ keeps_ticket _ = false
 abbrev pub spent : List Entry → ℕ → Bool
 spent [] t = false
 spent (e ∷ before) t = (retries e.call t && not (keeps_ticket e.reply)) || spent before t
-
--- what events (an outcome for each kind and page) make of an ask: it waits for its first page
-abbrev pub resolved_for : (AskKind → ℕ → Outcome) → Option Ask → Outcome
-resolved_for event None = Waiting
-resolved_for event (Some a) = event a.kind a.first
-
--- the first outcome decides
-abbrev pub then_outcome : Outcome → Outcome → Outcome
-then_outcome Waiting later = later
-then_outcome first _ = first
 
 -- what has become of ticket t: the first entry since it parked that resolves its page and kind decides
 abbrev pub outcome : Birth → List Entry → ℕ → Outcome

@@ -7,7 +7,7 @@ use Rattle.up_num.specs.declared.answers.Packet.{Packet}
 use Rattle.up_num.specs.declared.answers.Packet.TheVariants.{Read as ReadPacket}
 use Rattle.up_model.specs.Attempts.{accepts, attempt}
 use Rattle.up_model.specs.Asks.{Ask, asked, want}
-use Rattle.up_model.specs.Packets.{requested, packet_of}
+use Rattle.up_model.specs.Packets.{requested, packet_for}
 use Rattle.up_model.specs.declared.entry.Birth.{Birth}
 use Rattle.up_model.specs.declared.entry.Entry.{Entry}
 use Rattle.up_state.specs.declared.asking.Ticket.{Ticket}
@@ -36,7 +36,7 @@ asked_parked : (birth : Birth) (e : Entry) (h : List Entry) (ticket : Ticket) �
 asked_parked birth e h ticket p = rw (p.blocked, asks_page_0 birth e h ticket p) refl
 
 packets_cases : (before : List Packet) (b : Bool) →
-    before ++ map (packet_of ReadAsk) (cond (not b) (record { first = 0; count = 1 } ∷ []) []) ≡ cond b before (before ++ ReadPacket (record { first = 0; count = 1 }) ∷ [])
+    before ++ map (packet_for ReadAsk) (cond (not b) (record { first = 0; count = 1 } ∷ []) []) ≡ cond b before (before ++ ReadPacket (record { first = 0; count = 1 }) ∷ [])
 packets_cases before true = append-nil before
 packets_cases before false = refl
 

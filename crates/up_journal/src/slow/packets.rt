@@ -31,7 +31,7 @@ fn is_packet(reply: &Reply) -> bool
 /// Ends the run before a page: it makes a packet, if it has any page.
 fn close_run(list: &mut Items<Packet>, kind: AskKind, page: u32, run: u32) -> Result<(), Memory>
     requires { run ≤ page }
-    ensures { OnOk result (list.new ≡ list.old ++ map (sending.packet_of kind) (pages.closed page run)) }
+    ensures { OnOk result (list.new ≡ list.old ++ map (sending.packet_for kind) (pages.closed page run)) }
 {
     if run == 0 {
         return Ok(());
@@ -58,7 +58,7 @@ fn next_run(
     requires within { run ≤ page }
     requires below { page < 2 ^ 32 - 1 }
     ensures next { IfOk result (λ longer. longer ≡ cond fresh (run + 1) 0) }
-    ensures closed { OnOk result (list.new ≡ cond fresh list.old (list.old ++ map (sending.packet_of kind) (pages.closed page run))) }
+    ensures closed { OnOk result (list.new ≡ cond fresh list.old (list.old ++ map (sending.packet_for kind) (pages.closed page run))) }
 {
     if fresh {
         return Ok(run + 1);
@@ -78,7 +78,7 @@ fn send_runs(
     count: u32,
 ) -> Result<(), Memory>
     requires { first + count < 2 ^ 32 }
-    ensures { OnOk result (list.new ≡ list.old ++ map (sending.packet_of kind)
+    ensures { OnOk result (list.new ≡ list.old ++ map (sending.packet_for kind)
         (pages.runs (λ p. not (asking.asked birth.now (reverse before.now) kind p)) first 0 count)) }
 {
     let mut run = 0;

@@ -177,7 +177,7 @@ fn is_same_kind(one: Option<bool>, other: Option<bool>) -> bool
 fn close_run(list: &mut RangeSeq, page: u32, run: Run) -> Result<(), Memory>
     requires within { run.count ≤ page }
     requires some { HasPages run.kind run.count }
-    ensures { OnOk result (list.new ≡ list.old ++ pages.closed_kind page run.kind run.count) }
+    ensures { OnOk result (list.new ≡ list.old ++ map replies.dirty_run (pages.closed_kind page run.kind run.count)) }
 {
     if let Some(zero) = run.kind {
         let range = PageRange {
@@ -196,7 +196,7 @@ fn next_run(list: &mut RangeSeq, page: u32, kind: Option<bool>, run: Run) -> Res
     requires below { page < 2 ^ 32 - 1 }
     requires some { HasPages run.kind run.count }
     ensures next { IfOk result (λ longer. longer ≡ run_after kind run) }
-    ensures closed { OnOk result (list.new ≡ cond (pages.same_kind_of_page kind run.kind) list.old (list.old ++ pages.closed_kind page run.kind run.count)) }
+    ensures closed { OnOk result (list.new ≡ cond (pages.same_kind_of_page kind run.kind) list.old (list.old ++ map replies.dirty_run (pages.closed_kind page run.kind run.count))) }
 {
     if is_same_kind(kind, run.kind) {
         return Ok(Run {

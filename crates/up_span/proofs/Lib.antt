@@ -1,0 +1,4 @@
+mod Computed
+pub mod Ranges
+pub mod Apart
+pub mod OfKind

@@ -1,0 +1,4 @@
+pub mod Pages
+pub mod Runs
+pub mod Sets
+pub mod Laws
