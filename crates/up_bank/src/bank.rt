@@ -3,13 +3,13 @@ ghost use Rattle.up_bank.specs.Bytes.{Extends, Brings, bytes_of, longer};
 ghost use Rattle.up_bank.specs.Find.{FoundHome, FoundOut, NoneTwice, Scanned, Counted, words_of};
 ghost use Rattle.up_bank.specs.Standing.{first_seat, second_seat, frames_of, most_frames};
 
+use crate::Memory;
 use crate::frame::Frame;
 use crate::kind::FrameKind;
 use crate::rule::{Board, Part, Place, Shape, Unite};
 use std::alloc::Global;
 use std::marker::Model;
 use std::snapshot::Snapshot;
-use up_num::Memory;
 
 /// A bank of page frames of one kind, which threads share. Each frame is at home, or out as one `Frame`.
 #[derive(Drop)]

@@ -1,9 +1,9 @@
 ghost use Rattle.std.specs.Prelude.{◌≡◌, ◌+◌, ◌≤◌, length, IfOk};
 ghost use Rattle.up_bank.specs.Bytes.{zero_bytes, written};
 
+use crate::Memory;
 use std::alloc::Global;
 use std::marker::Model;
-use up_num::Memory;
 
 /// The bytes of a frame.
 #[derive(Drop)]

@@ -15,3 +15,6 @@ mod view;
 pub use bank::{Bank, BankSeat, Scan};
 pub use frame::Frame;
 pub use kind::FrameKind;
+
+/// Want of memory.
+pub type Memory = std::alloc::AllocError;

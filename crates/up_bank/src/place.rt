@@ -9,13 +9,13 @@ ghost use Rattle.up_bank.specs.Standing.{frames_of};
 ghost use Rattle.up_bank.specs.Plays.{AsKnown, saw, fetched, Put};
 ghost use Rattle.up_bank.specs.Scan.{Idle, Claimed, Got, IsIn, Missed, Counting, frames_in};
 
+use crate::Memory;
 use crate::bank::Bank;
 use crate::block::Block;
 use crate::frame::Frame;
 use crate::rule::{Board, Clear, Look, Place, Reclaim, Regain, Restore, Shape, Shed, Vacate};
 use atomic_table::{Refused, Table};
 use std::alloc::{AllocError, Global};
-use up_num::Memory;
 
 // The words of a bank's table when all frames are at home.
 fn opening_words(alloc: Global, frames: u32) -> Result<Vec<u64>, Memory>

@@ -1,13 +1,12 @@
 ghost use Rattle.std.specs.Prelude.{◌≡◌, ◌<◌, ◌≤◌, [], All};
 ghost use Rattle.up_bank.specs.Standing.{most_frames};
 
-use crate::{Bank, BankSeat, Frame, FrameKind};
+use crate::{Bank, BankSeat, Frame, FrameKind, Memory};
 use std::alloc::Global;
 use std::snapshot::Snapshot;
 use std::test::Fail;
 use std::thread;
 use std::thread::Threads;
-use up_num::Memory;
 
 #[test]
 fn a_bank_of_three_frames(rt: HostRuntime) -> Result<(), Fail> {

@@ -2,12 +2,12 @@ ghost use Rattle.std.specs.Prelude.{◌≡◌, ◌+◌, ◌≤◌, ◌++◌, ◌
 ghost use Rattle.std.specs.List.Sorted.{IsNonDecreasing};
 ghost use Rattle.up_clock.specs.Known.{first_seat, second_seat, last_age, Aged};
 
+use crate::Memory;
 use crate::rule::{Age, Begin, Look, Share, Ticking, Unite};
 use crate::view::View;
 use atomic_table::{Seat, Table};
 use std::alloc::Global;
 use std::marker::Model;
-use up_num::Memory;
 
 /// A number from 0 to 2^64 - 1 that threads share. It starts at 0 and never falls.
 #[derive(Drop)]

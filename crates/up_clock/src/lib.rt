@@ -9,3 +9,6 @@ mod tests;
 mod view;
 
 pub use clock::{Clock, ClockSeat};
+
+/// Want of memory.
+pub type Memory = std::alloc::AllocError;

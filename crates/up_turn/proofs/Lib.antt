@@ -1,0 +1,6 @@
+pub mod Placings
+pub mod Views
+pub mod Keeps
+pub mod Passes
+pub mod Ends
+pub mod Moments

@@ -1,0 +1,5 @@
+use Rattle.up_turn.proofs.Moments.{entries_are_own}
+use Rattle.up_turn.proofs.laws.entries_are_own.Goals as goal
+
+pub returns : goal.returns
+returns g c = entries_are_own _ _

@@ -1,0 +1,5 @@
+pub mod Placing
+pub mod Standing
+pub mod Turned
+pub mod Plays
+pub mod Laws
