@@ -17,14 +17,14 @@ use Rattle.up_bank.specs.declared.kind.FrameKind.{FrameKind}
 use Rattle.up_bank.specs.declared.kind.FrameKind.TheVariants.{Ordinary, Loaned}
 use Rattle.up_pages.specs.Frames.{Stock}
 use Rattle.up_pages.specs.Pages.{PageMap, page_at, size_of, frame_of, overwritten, look_of as look_at, with_state as page_with_state}
-use Rattle.up_model.specs.Looks.{PageLook, look_of, has_frame, with_state}
+use Rattle.up_model.specs.Looks.{PageLook, Missing, Zeros, Framed, look_of, has_frame, is_present, lacks_own_frame, with_state, pinned_look}
 use Rattle.up_model.specs.Use.{newest_epoch}
 use Rattle.up_model.specs.Changes.{Turns, SamePage, SetsState, Uses, UnpinsOne, Hints, Blanks, Goes, Fills, Reframes, Writes, PinsOne, over_byte, FreshUse}
 use Rattle.up_model.specs.declared.entry.Birth.{Birth}
 use Rattle.up_model.specs.declared.entry.Entry.{Entry}
 use Rattle.up_object.specs.declared.marks.Mark.{Mark}
 use Rattle.up_object.specs.declared.marks.Key.{Key}
-use Rattle.up_object.specs.Parts.{BankPair, bank_of, is_loan, PageStands, KeyStands, HasOwn, IsOwn, shown, content, mark_at}
+use Rattle.up_object.specs.Parts.{BankPair, bank_of, is_loan, PageStands, KeyStands, HasOwn, IsOwn, shown, state_shown, content, mark_at}
 use Rattle.up_object.specs.Change.{Done, is_done, up_to, next_done, PagesStand, AllAre, AllOwn, FramesStand, ChangeStandsFor}
 
 -- which pages are done, one page further
@@ -325,3 +325,133 @@ written_length old new at whole fits =
 -- a frame that is filled whole
 pub written_whole : (old new : List ℕ) (i : ℕ) → length old ≡ 4096 → length new ≡ 4096 → i < 4096 → get_or new i 0 ≡ get_or (written old 0 new) i 0
 written_whole old new i whole full lt = sym (get_or-append new (drop (0 + length new) old) 0 i (omega arith))
+
+-- A page in a given frame.
+
+one_more : (n : ℕ) → suc n ≡ n + 1
+one_more n = omega arith
+
+pinned_is : (look : PageLook) → is_present look ≡ true → pinned_look look ≡ Framed (state_shown look) false
+pinned_is Missing here = absurd cc
+pinned_is (Zeros state) here = refl
+pinned_is (Framed state loan) here = refl
+
+pinned_own : (look : PageLook) → is_present look ≡ true → lacks_own_frame look ≡ false → pinned_look look ≡ look
+pinned_own Missing here own = absurd cc
+pinned_own (Zeros state) here own = absurd cc
+pinned_own (Framed state loan) here own = ap (λ b. Framed state b) (sym own)
+
+-- what a page's look is in a given frame
+framed_look : (banks : BankPair) (brings : FrameKind) (frame : Frame) (state : PageState) (loan : Bool) → (banks.ordinary.kind ≡ Ordinary) × (banks.loaned.kind ≡ Loaned) →
+    frame.bank ≡ bank_of banks brings → is_loan brings ≡ loan → Framed state loan ≡ shown (look_at (HeldPage frame state))
+framed_look banks brings frame state loan kinds is lends = ap (λ b. Framed state b) (sym lends ∙ ap is_loan (sym (kind_given banks brings frame.bank kinds is)))
+
+pub fill_given : (banks : BankPair) (brings : FrameKind) (page : Page) (frame frame' : Frame) (mark new : Mark) (birth : Birth) (e : Entry) (h : List Entry) (p : ℕ) (bytes : List ℕ) →
+    (banks.ordinary.kind ≡ Ordinary) × (banks.loaned.kind ≡ Loaned) → frame.bank ≡ bank_of banks brings → length frame.bytes ≡ 4096 → is_loan brings ≡ false → length bytes ≡ 4096 →
+    frame' ≡ record frame { bytes = written frame.bytes 0 bytes } → PageStands banks page mark birth h p → Fills birth e h p bytes → new ≡ used_mark (length h) (newest_epoch (e ∷ h)) mark →
+    PageStands banks (HeldPage frame' Clean) new birth (e ∷ h) p
+fill_given banks brings page frame frame' mark new birth e h p bytes kinds bank whole lends full made s t is =
+    let made_bank : frame'.bank ≡ bank_of banks brings = ap (λ (f : Frame). f.bank) made ∙ bank in
+    let made_bytes : frame'.bytes ≡ written frame.bytes 0 bytes = ap (λ (f : Frame). f.bytes) made in record {
+      looks = t.looks ∙ framed_look banks brings frame' Clean false kinds made_bank lends;
+      bytes = λ i lt. t.bytes i lt ∙ ap (λ (b : ℕ). Some b) (written_whole frame.bytes bytes i whole full lt ∙ ap (λ (xs : List ℕ). get_or xs i 0) (sym made_bytes));
+      owned = own_given banks brings frame' kinds made_bank (ap length made_bytes ∙ written_length frame.bytes bytes 0 whole (omega arith));
+      pinned = rw is (t.marks.pinned ∙ s.pinned);
+      protected = rw is (t.marks.protected ∙ s.protected);
+      keyed = λ framed. rw is (fresh_stands birth e h p t.fresh);
+    }
+
+-- a frame that has the bytes of a page
+pub record HasBytes (page : Page) (frame : Frame) : Type 0 where
+  pub whole : length frame.bytes ≡ 4096
+  pub each : (i : ℕ) → i < 4096 → content page i ≡ Some (get_or frame.bytes i 0)
+
+pub reframe_given : (banks : BankPair) (brings : FrameKind) (page : Page) (frame : Frame) (mark : Mark) (birth : Birth) (e : Entry) (h : List Entry) (p : ℕ) (state : PageState) →
+    (banks.ordinary.kind ≡ Ordinary) × (banks.loaned.kind ≡ Loaned) → frame.bank ≡ bank_of banks brings → HasBytes page frame →
+    PageStands banks page mark birth h p → Reframes birth e h p state (is_loan brings) → PageStands banks (HeldPage frame state) mark birth (e ∷ h) p
+reframe_given banks brings page frame mark birth e h p state kinds bank copy s t = record {
+  looks = t.turns.looks ∙ framed_look banks brings frame state (is_loan brings) kinds bank refl;
+  bytes = λ i lt. t.turns.bytes i lt ∙ s.bytes i lt ∙ copy.each i lt;
+  owned = own_given banks brings frame kinds bank copy.whole;
+  pinned = t.turns.marks.pinned ∙ s.pinned;
+  protected = t.turns.marks.protected ∙ s.protected;
+  keyed = λ framed. key_turns birth e h p mark _ t.turns (s.keyed (ap has_frame (sym s.looks) ∙ t.framed));
+}
+
+pub pin_given : (banks : BankPair) (brings : FrameKind) (page : Page) (frame : Frame) (mark new : Mark) (birth : Birth) (e : Entry) (h : List Entry) (p : ℕ) (state : PageState) →
+    (banks.ordinary.kind ≡ Ordinary) × (banks.loaned.kind ≡ Loaned) → frame.bank ≡ bank_of banks brings → is_loan brings ≡ false → HasBytes page frame → state ≡ state_shown (shown (look_at page)) →
+    PageStands banks page mark birth h p → PinsOne birth e h p → new ≡ record { pins = mark.pins + 1; always = mark.always; key = record { used = length h; generation = newest_epoch (e ∷ h); cold = None } } →
+    PageStands banks (HeldPage frame state) new birth (e ∷ h) p
+pin_given banks brings page frame mark new birth e h p state kinds bank lends copy now s t is =
+    let shows : is_present (shown (look_at page)) ≡ true = ap is_present (sym s.looks) ∙ t.present in record {
+      looks = t.looks ∙ ap pinned_look s.looks ∙ pinned_is (shown (look_at page)) shows ∙ ap (λ x. Framed x false) (sym now) ∙ framed_look banks brings frame state false kinds bank lends;
+      bytes = λ i lt. t.bytes i lt ∙ s.bytes i lt ∙ copy.each i lt;
+      owned = own_given banks brings frame kinds bank copy.whole;
+      pinned = rw is (t.pinned ∙ ap suc s.pinned ∙ one_more mark.pins);
+      protected = rw is (t.protected ∙ s.protected);
+      keyed = λ framed. rw is (fresh_stands birth e h p t.fresh);
+    }
+
+pub pin_place : (banks : BankPair) (page : Page) (mark new : Mark) (birth : Birth) (e : Entry) (h : List Entry) (p : ℕ) → lacks_own_frame (look_of birth h p) ≡ false →
+    PageStands banks page mark birth h p → PinsOne birth e h p → new ≡ record { pins = mark.pins + 1; always = mark.always; key = record { used = length h; generation = newest_epoch (e ∷ h); cold = None } } →
+    PageStands banks page new birth (e ∷ h) p
+pin_place banks page mark new birth e h p own s t is = record {
+  looks = t.looks ∙ pinned_own (look_of birth h p) t.present own ∙ s.looks;
+  bytes = λ i lt. t.bytes i lt ∙ s.bytes i lt;
+  owned = s.owned;
+  pinned = rw is (t.pinned ∙ ap suc s.pinned ∙ one_more mark.pins);
+  protected = rw is (t.protected ∙ s.protected);
+  keyed = λ framed. rw is (fresh_stands birth e h p t.fresh);
+}
+
+pub write_given : (banks : BankPair) (brings : FrameKind) (page : Page) (frame frame' : Frame) (mark new : Mark) (birth : Birth) (e : Entry) (h : List Entry) (p at : ℕ) (bytes : List ℕ) →
+    (banks.ordinary.kind ≡ Ordinary) × (banks.loaned.kind ≡ Loaned) → frame.bank ≡ bank_of banks brings → is_loan brings ≡ false → HasBytes page frame → at + length bytes ≤ 4096 →
+    frame' ≡ record frame { bytes = written frame.bytes at bytes } → PageStands banks page mark birth h p → Writes birth e h p at bytes → new ≡ used_mark (length h) (newest_epoch (e ∷ h)) mark →
+    PageStands banks (HeldPage frame' Dirty) new birth (e ∷ h) p
+write_given banks brings page frame frame' mark new birth e h p at bytes kinds bank lends copy fits made s t is =
+    let made_bank : frame'.bank ≡ bank_of banks brings = ap (λ (f : Frame). f.bank) made ∙ bank in
+    let made_bytes : frame'.bytes ≡ written frame.bytes at bytes = ap (λ (f : Frame). f.bytes) made in record {
+      looks = t.looks ∙ framed_look banks brings frame' Dirty false kinds made_bank lends;
+      bytes = λ i lt. t.bytes i lt ∙ ap (over_byte at bytes i) (s.bytes i lt ∙ copy.each i lt) ∙ sym (written_over frame.bytes bytes at i copy.whole fits lt) ∙ ap (λ (xs : List ℕ). Some (get_or xs i 0)) (sym made_bytes);
+      owned = own_given banks brings frame' kinds made_bank (ap length made_bytes ∙ written_length frame.bytes bytes at copy.whole fits);
+      pinned = rw is (t.marks.pinned ∙ s.pinned);
+      protected = rw is (t.marks.protected ∙ s.protected);
+      keyed = λ framed. rw is (fresh_stands birth e h p t.fresh);
+    }
+
+-- what a write makes of a page that has a frame of its own
+record Overwrites (banks : BankPair) (page : Page) (at : ℕ) (bytes : List ℕ) : Type 0 where
+  looks : Framed Dirty false ≡ shown (look_at (page_with_state Dirty (overwritten at bytes page)))
+  each : (i : ℕ) → i < 4096 → over_byte at bytes i (content page i) ≡ content (page_with_state Dirty (overwritten at bytes page)) i
+  owned : HasOwn banks (page_with_state Dirty (overwritten at bytes page))
+
+write_own : (banks : BankPair) (page : Page) (at : ℕ) (bytes : List ℕ) → HasOwn banks page → is_present (shown (look_at page)) ≡ true → lacks_own_frame (shown (look_at page)) ≡ false → at + length bytes ≤ 4096 →
+    Overwrites banks page at bytes
+write_own banks Absent at bytes own here lacks fits = absurd cc
+write_own banks (Zero state) at bytes own here lacks fits = absurd cc
+write_own banks (HeldPage frame state) at bytes own here lacks fits = record {
+  looks = ap (λ b. Framed Dirty b) (sym lacks);
+  each = λ i lt. sym (written_over frame.bytes bytes at i own.whole fits lt);
+  owned = record { bank = own.bank; whole = written_length frame.bytes bytes at own.whole fits };
+}
+
+pub write_place : (banks : BankPair) (page : Page) (mark new : Mark) (birth : Birth) (e : Entry) (h : List Entry) (p at : ℕ) (bytes : List ℕ) → lacks_own_frame (look_of birth h p) ≡ false → at + length bytes ≤ 4096 →
+    PageStands banks page mark birth h p → Writes birth e h p at bytes → new ≡ used_mark (length h) (newest_epoch (e ∷ h)) mark →
+    PageStands banks (page_with_state Dirty (overwritten at bytes page)) new birth (e ∷ h) p
+write_place banks page mark new birth e h p at bytes own fits s t is =
+    let w = write_own banks page at bytes s.owned (ap is_present (sym s.looks) ∙ t.present) (ap lacks_own_frame (sym s.looks) ∙ own) fits in record {
+      looks = t.looks ∙ w.looks;
+      bytes = λ i lt. t.bytes i lt ∙ ap (over_byte at bytes i) (s.bytes i lt) ∙ w.each i lt;
+      owned = w.owned;
+      pinned = rw is (t.marks.pinned ∙ s.pinned);
+      protected = rw is (t.marks.protected ∙ s.protected);
+      keyed = λ framed. rw is (fresh_stands birth e h p t.fresh);
+    }
+
+-- two changes of the page at the mark
+pub twice_puts : {T : Type 0} (f g : T → T) (old middle new : ℕ → T) (m : ℕ) → ((p : ℕ) → middle p ≡ cond (m == p) (f (old p)) (old p)) → ((p : ℕ) → new p ≡ cond (m == p) (g (middle p)) (middle p)) →
+    (p : ℕ) → new p ≡ cond (m == p) (g (f (old m))) (old p)
+twice_puts f g old middle new m one two p = two p ∙ elim (m == p) as (λ b. (m == p) ≡ b → cond b (g (middle p)) (middle p) ≡ cond b (g (f (old m))) (old p)) [
+  | true ↦ λ q. ap g (one p ∙ ap (λ b. cond b (f (old p)) (old p)) q ∙ ap (λ (n : ℕ). f (old n)) (sym (same_number m p q)))
+  | false ↦ λ q. one p ∙ ap (λ b. cond b (f (old p)) (old p)) q
+] refl

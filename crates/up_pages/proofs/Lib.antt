@@ -1,0 +1,4 @@
+pub mod Counting
+pub mod Places
+pub mod Taking
+pub mod OneMore

@@ -1,0 +1,4 @@
+pub mod Frames
+pub mod Pages
+pub mod Runs
+pub mod Laws

@@ -1,0 +1,17 @@
+//! The pages of an object, each absent, a zero page, or held by a frame, and lists of frames.
+#![tactic(auto)]
+
+mod frames;
+pub mod laws;
+mod list;
+mod page;
+mod runs;
+#[cfg(test)]
+mod tests;
+
+pub use frames::Frames;
+pub use list::PageList;
+pub use page::Look;
+
+/// Want of memory.
+pub type Memory = std::alloc::AllocError;

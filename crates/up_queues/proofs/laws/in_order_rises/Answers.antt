@@ -1,0 +1,5 @@
+use Rattle.up_queues.proofs.Queueing.{rises}
+use Rattle.up_queues.proofs.laws.in_order_rises.Goals as goal
+
+pub returns : goal.returns
+returns c = rises

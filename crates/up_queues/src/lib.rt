@@ -1,0 +1,11 @@
+//! The queues of an object: the pages that may be reclaimed, in the order in which they go.
+#![tactic(auto)]
+
+pub mod laws;
+mod queued;
+mod queues;
+#[cfg(test)]
+mod tests;
+
+pub use queued::Queued;
+pub use queues::Queues;
