@@ -16,7 +16,7 @@ use Rattle.up_num.specs.declared.answers.PageState.TheVariants.{Clean, Dirty}
 use Rattle.up_bank.specs.declared.kind.FrameKind.{FrameKind}
 use Rattle.up_bank.specs.declared.kind.FrameKind.TheVariants.{Ordinary, Loaned}
 use Rattle.up_pages.specs.Frames.{Stock}
-use Rattle.up_pages.specs.Pages.{PageMap, page_at, size_of, frame_of, overwritten, look_of as look_at, with_state as page_with_state}
+use Rattle.up_pages.specs.Pages.{PageMap, page_at, size_of, frame_of, bytes_in, overwritten, look_of as look_at, with_state as page_with_state}
 use Rattle.up_model.specs.Looks.{PageLook, Missing, Zeros, Framed, look_of, has_frame, is_present, lacks_own_frame, with_state, pinned_look}
 use Rattle.up_model.specs.Use.{newest_epoch}
 use Rattle.up_model.specs.Changes.{Turns, SamePage, SetsState, Uses, UnpinsOne, Hints, Blanks, Goes, Fills, Reframes, Writes, PinsOne, over_byte, FreshUse}
@@ -25,7 +25,7 @@ use Rattle.up_model.specs.declared.entry.Entry.{Entry}
 use Rattle.up_object.specs.declared.marks.Mark.{Mark}
 use Rattle.up_object.specs.declared.marks.Key.{Key}
 use Rattle.up_object.specs.Parts.{BankPair, bank_of, is_loan, PageStands, KeyStands, HasOwn, IsOwn, shown, state_shown, content, mark_at}
-use Rattle.up_object.specs.Change.{Done, is_done, up_to, next_done, PagesStand, AllAre, AllOwn, FramesStand, ChangeStandsFor}
+use Rattle.up_object.specs.Change.{Done, Rest, is_done, up_to, next_done, PagesStand, AllAre, AllOwn, FramesStand, ChangeStandsFor}
 
 -- which pages are done, one page further
 done_at : (first m p : ℕ) → first ≤ m → (m == p) ≡ true → (nat_le first p && nat_lt p (m + 1)) ≡ true
@@ -206,16 +206,16 @@ stays_puts f m p = elim (m == p) as (λ b. (m == p) ≡ b → f p ≡ cond b (f 
 pub stock_next : (banks : BankPair) (brings : FrameKind) (given back : Stock) (done : Done) → FramesStand banks brings given back done → FramesStand banks brings given back (next_done done)
 stock_next banks brings given back done s = record { given_own = s.given_own; back_own = s.back_own; room = let room = s.room in omega arith }
 
-pub steps : (banks : BankPair) (pages pages' : PageMap) (marks marks' : List Mark) (brings : FrameKind) (given given' back back' : Stock) (newest spare : ℕ) (birth : Birth) (e : Entry) (h : List Entry) (done : Done) →
-    ChangeStandsFor banks pages marks brings given back newest spare birth e h done → PagesStand banks pages' marks' birth e h (next_done done) → FramesStand banks brings given' back' (next_done done) →
-    ChangeStandsFor banks pages' marks' brings given' back' newest spare birth e h (next_done done)
-steps banks pages pages' marks marks' brings given given' back back' newest spare birth e h done s part stock = record {
+pub steps : (banks : BankPair) (pages pages' : PageMap) (marks marks' : List Mark) (brings : FrameKind) (given given' back back' : Stock) (rest : Rest) (birth : Birth) (e : Entry) (h : List Entry) (done : Done) →
+    ChangeStandsFor banks pages marks brings given back rest birth e h done → size_of pages' ≡ size_of pages → PagesStand banks pages' marks' birth e h (next_done done) → FramesStand banks brings given' back' (next_done done) →
+    ChangeStandsFor banks pages' marks' brings given' back' rest birth e h (next_done done)
+steps banks pages pages' marks marks' brings given given' back back' rest birth e h done s same part stock = record {
   legal = s.legal;
   kinds = s.kinds;
+  sized = same ∙ s.sized;
   part = part;
   stock = stock;
-  epoch = s.epoch;
-  room = s.room;
+  rest = s.rest;
 }
 
 -- a call's clause says what it makes of any page, and is read at the mark
@@ -455,3 +455,9 @@ twice_puts f g old middle new m one two p = two p ∙ elim (m == p) as (λ b. (m
   | true ↦ λ q. ap g (one p ∙ ap (λ b. cond b (f (old p)) (old p)) q ∙ ap (λ (n : ℕ). f (old n)) (sym (same_number m p q)))
   | false ↦ λ q. one p ∙ ap (λ b. cond b (f (old p)) (old p)) q
 ] refl
+
+-- a page that is there and has no frame reads as zeros
+pub blank_content : (page : Page) (i : ℕ) → is_present (shown (look_at page)) ≡ true → bytes_in page ≡ None → content page i ≡ Some 0
+blank_content Absent i here none = absurd cc
+blank_content (Zero state) i here none = refl
+blank_content (HeldPage frame state) i here none = absurd cc

@@ -6,18 +6,23 @@ use Rattle.up_bank.specs.declared.kind.FrameKind.{FrameKind}
 use Rattle.up_bank.specs.declared.kind.FrameKind.TheVariants.{Ordinary, Loaned}
 use Rattle.up_pages.specs.Frames.{Stock, count_kind}
 use Rattle.up_pages.specs.Pages.{PageMap, page_at, size_of, held_by}
+use Rattle.up_queues.specs.Queue.{Queue, find_page}
+use Rattle.up_model.specs.Size.{size}
 use Rattle.up_model.specs.Use.{newest_epoch}
 use Rattle.up_model.specs.Legal.{Legal}
 use Rattle.up_model.specs.declared.entry.Birth.{Birth}
 use Rattle.up_model.specs.declared.entry.Entry.{Entry}
 use Rattle.up_object.specs.declared.marks.Mark.{Mark}
 use Rattle.up_object.specs.Parts.{BankPair, bank_of, PageStands, mark_at}
+use Rattle.up_object.specs.Stands.{Asked, AsksStand, Tally, TallyStands, seat, reserved, leaves_after}
 
 -- how far a call has come: its pages are those from `first` up to `limit`, and those below `mark` are done
 pub record Done : Type 0 where
   pub first : ℕ
   pub mark : ℕ
   pub limit : ℕ
+  pub asks : Bool
+  pub tally : Bool
 
 -- how many frames there are of each kind
 pub record Counts : Type 0 where
@@ -92,11 +97,30 @@ pub record FramesStand (banks : BankPair) (brings : FrameKind) (given back : Sto
   pub back_own : AllOwn banks back.items
   pub room : length back.items + length given.items + done.limit ≤ back.room + done.mark
 
-pub record ChangeStandsFor (banks : BankPair) (pages : PageMap) (marks : List Mark) (brings : FrameKind) (given back : Stock) (newest : ℕ) (spare : ℕ)
+-- what an object keeps beside its pages and their marks
+pub record Rest : Type 0 where
+  pub queue : Queue
+  pub asked : Asked
+  pub tally : Tally
+  pub newest : ℕ
+  pub leaves : ℕ
+  pub spare : ℕ
+
+-- it stands for the journal before the entry, or with it where it is done; the queues wait for the end of the call
+pub record RestStands (rest : Rest) (pages : ℕ) (birth : Birth) (e : Entry) (h : List Entry) (done : Done) : Type 0 where
+  pub queued : (p : ℕ) → find_page rest.queue.items p ≡ seat birth h p
+  pub wide : pages ≤ rest.queue.room
+  pub asks : AsksStand rest.asked birth (up_to done.asks e h)
+  pub tallied : TallyStands rest.tally birth (up_to done.tally e h)
+  pub epoch : newest_epoch h ≡ rest.newest
+  pub leaving : rest.leaves ≡ reserved birth h
+  pub room : leaves_after e.call rest.leaves < rest.spare
+
+pub record ChangeStandsFor (banks : BankPair) (pages : PageMap) (marks : List Mark) (brings : FrameKind) (given back : Stock) (rest : Rest)
     (birth : Birth) (e : Entry) (h : List Entry) (done : Done) : Type 0 where
   pub legal : Legal birth h
   pub kinds : (banks.ordinary.kind ≡ Ordinary) × (banks.loaned.kind ≡ Loaned)
+  pub sized : size_of pages ≡ size birth h
   pub part : PagesStand banks pages marks birth e h done
   pub stock : FramesStand banks brings given back done
-  pub epoch : newest_epoch h ≡ newest
-  pub room : 0 < spare
+  pub rest : RestStands rest (size_of pages) birth e h done

@@ -2,10 +2,16 @@
 //! stands for. Calls stand in crates above; they are written over `parts::Changing`, which changes one part at a time.
 #![tactic(auto)]
 
+mod asking;
 mod banks;
 mod marks;
 mod moves;
+mod object;
 pub mod parts;
+mod tally;
 
 pub use banks::Banks;
+pub use asking::AskMark;
 pub use marks::{Key, Mark};
+pub use object::Object;
+pub use tally::Tally;

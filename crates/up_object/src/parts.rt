@@ -6,14 +6,17 @@ ghost use Rattle.up_model.specs.Changes.{SamePage, SetsState, Reframes, Uses, Fi
 ghost use Rattle.up_object.specs.Parts.{shown, is_loan};
 ghost use Rattle.up_object.specs.Change.{next, next_using};
 
+use crate::asking::Asking;
 use crate::banks::Banks;
 use crate::marks::{Key, Mark, Marks};
 use crate::moves::{copy_to, lacks_own, last_of, state_in};
+use crate::tally::Tally;
 use std::marker::Model;
 use up_bank::FrameKind;
 use up_model::{Birth, Entry, Log};
 use up_num::{PageNo, PageState};
 use up_pages::{Frames, Look, PageList};
+use up_queues::Queues;
 
 /// An object in the middle of a call: the call's pages, from the first on, are changed one by one, and then the rest. It has the
 /// frames that the call was given, and those that come back.
@@ -22,7 +25,11 @@ pub struct Changing {
     pub(crate) banks: Banks,
     pub(crate) pages: PageList,
     pub(crate) marks: Marks,
+    pub(crate) queues: Queues,
+    pub(crate) asking: Asking,
+    pub(crate) tally: Tally,
     pub(crate) newest: u64,
+    pub(crate) leaves: u32,
     pub(crate) log: Log,
     pub(crate) entry: Entry,
     pub(crate) brings: FrameKind,
@@ -31,6 +38,8 @@ pub struct Changing {
     pub(crate) first: u32,
     pub(crate) mark: u32,
     pub(crate) limit: u32,
+    pub(crate) asks_done: bool,
+    pub(crate) tally_done: bool,
 }
 
 impl Model for Changing {
@@ -48,7 +57,7 @@ impl Model for Changing {
       entry = o.entry;
       banks = o.banks;
       brings = o.brings;
-      done = record { first = o.first; mark = o.mark; limit = o.limit };
+      done = record { first = o.first; mark = o.mark; limit = o.limit; asks = o.asks_done; tally = o.tally_done };
       pages = size_of o.pages;
       given = length o.given.items;
       frames = counts_of o.given.items o.back.items o.pages;

@@ -10,7 +10,7 @@ use Rattle.up_object.proofs.Turning.{turned, at_mark, stays_puts, own_puts, twic
 use Rattle.up_object.proofs.parts.Changing.pin_in_place.Goals as goal
 
 pub invariant_of-self : goal.invariant_of-self
-invariant_of-self c = steps _ _ _ _ _ _ _ _ _ _ _ _ _ _ _ _ c.self.invariant
+invariant_of-self c = steps _ _ _ _ _ _ _ _ _ _ _ _ _ _ _ c.self.invariant refl
     (turned _ _ _ _ _ _ _ _ _ _ _ c.self.invariant.part (subst (λ (v : Change). v.done.mark < v.done.limit) (sym c.self.view_is) c.requires.left) (stays_puts (page_at c.self.inside.pages) c.self.inside.mark) refl (omega arith) c.set.ensures.pages c.set.ensures.size
     (pin_place _ _ _ _ _ _ _ _ (subst (λ (v : Change). looks.lacks_own_frame (looks.look_of v.birth v.journal v.done.mark) ≡ false) (sym c.self.view_is) c.requires.own) (at_mark _ _ _ _ _ _ _ c.self.invariant.part) (subst (λ (v : Change). changes.PinsOne v.birth v.entry v.journal v.done.mark) (sym c.self.view_is) c.requires.pins) (grind arith)))
     (stock_next _ _ _ _ _ c.self.invariant.stock)

@@ -10,7 +10,7 @@ use Rattle.up_object.proofs.Turning.{turned, at_mark, stays_puts, own_puts, twic
 use Rattle.up_object.proofs.parts.Changing.write_in_place.Goals as goal
 
 pub invariant_of-self : goal.invariant_of-self
-invariant_of-self c = steps _ _ _ _ _ _ _ _ _ _ _ _ _ _ _ _ c.self.invariant
+invariant_of-self c = steps _ _ c.set_state.new.self _ _ _ _ _ _ _ _ _ _ _ _ c.self.invariant (c.set_state.ensures.size ∙ c.write_at.ensures.size)
     (turned _ _ c.set_state.new.self _ _ (with_state Dirty (overwritten c.args.at c.args.bytes.now (page_at c.self.inside.pages c.self.inside.mark))) _ _ _ _ _ c.self.invariant.part (subst (λ (v : Change). v.done.mark < v.done.limit) (sym c.self.view_is) c.requires.left)
     (twice_puts (overwritten c.args.at c.args.bytes.now) (with_state Dirty) (page_at c.self.inside.pages) (page_at c.write_at.new.self) (page_at c.set_state.new.self) c.self.inside.mark c.write_at.ensures.pages c.set_state.ensures.pages)
     (c.set_state.ensures.size ∙ c.write_at.ensures.size) (omega arith) c.set.ensures.pages c.set.ensures.size
