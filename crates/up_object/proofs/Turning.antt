@@ -25,7 +25,7 @@ use Rattle.up_model.specs.declared.entry.Entry.{Entry}
 use Rattle.up_object.specs.declared.marks.Mark.{Mark}
 use Rattle.up_object.specs.declared.marks.Key.{Key}
 use Rattle.up_object.specs.Parts.{BankPair, bank_of, is_loan, PageStands, KeyStands, HasOwn, IsOwn, shown, state_shown, content, mark_at}
-use Rattle.up_object.specs.Change.{Done, Rest, is_done, up_to, next_done, PagesStand, AllAre, AllOwn, FramesStand, ChangeStandsFor}
+use Rattle.up_object.specs.Change.{Done, Rest, RestStands, is_done, up_to, next_done, PagesStand, AllAre, AllOwn, FramesStand, ChangeStandsFor}
 
 -- which pages are done, one page further
 done_at : (first m p : ℕ) → first ≤ m → (m == p) ≡ true → (nat_le first p && nat_lt p (m + 1)) ≡ true
@@ -206,6 +206,18 @@ stays_puts f m p = elim (m == p) as (λ b. (m == p) ≡ b → f p ≡ cond b (f 
 pub stock_next : (banks : BankPair) (brings : FrameKind) (given back : Stock) (done : Done) → FramesStand banks brings given back done → FramesStand banks brings given back (next_done done)
 stock_next banks brings given back done s = record { given_own = s.given_own; back_own = s.back_own; room = let room = s.room in omega arith }
 
+rest_next : (rest : Rest) (pages : ℕ) (birth : Birth) (e : Entry) (h : List Entry) (done : Done) → RestStands rest pages birth e h done → RestStands rest pages birth e h (next_done done)
+rest_next rest pages birth e h done s = record {
+  queued = s.queued;
+  wide = s.wide;
+  asks = s.asks;
+  tallied = s.tallied;
+  epoch = s.epoch;
+  leaving = s.leaving;
+  few = s.few;
+  room = s.room;
+}
+
 pub steps : (banks : BankPair) (pages pages' : PageMap) (marks marks' : List Mark) (brings : FrameKind) (given given' back back' : Stock) (rest : Rest) (birth : Birth) (e : Entry) (h : List Entry) (done : Done) →
     ChangeStandsFor banks pages marks brings given back rest birth e h done → size_of pages' ≡ size_of pages → PagesStand banks pages' marks' birth e h (next_done done) → FramesStand banks brings given' back' (next_done done) →
     ChangeStandsFor banks pages' marks' brings given' back' rest birth e h (next_done done)
@@ -215,7 +227,7 @@ steps banks pages pages' marks marks' brings given given' back back' rest birth 
   sized = same ∙ s.sized;
   part = part;
   stock = stock;
-  rest = s.rest;
+  others = subst (λ (n : ℕ). RestStands rest n birth e h (next_done done)) (sym same) (rest_next rest (size_of pages) birth e h done s.others);
 }
 
 -- a call's clause says what it makes of any page, and is read at the mark

@@ -9,11 +9,14 @@ use Rattle.up_pages.specs.Pages.{PageMap, page_at, size_of, held_by}
 use Rattle.up_queues.specs.Queue.{Queue, find_page}
 use Rattle.up_model.specs.Size.{size}
 use Rattle.up_model.specs.Use.{newest_epoch}
+use Rattle.up_num.specs.declared.answers.AskKind.TheVariants.{Dirty as DirtyAsk}
+use Rattle.up_model.specs.Asks.{asked}
 use Rattle.up_model.specs.Legal.{Legal}
 use Rattle.up_model.specs.declared.entry.Birth.{Birth}
 use Rattle.up_model.specs.declared.entry.Entry.{Entry}
 use Rattle.up_object.specs.declared.marks.Mark.{Mark}
 use Rattle.up_object.specs.Parts.{BankPair, bank_of, PageStands, mark_at}
+use Rattle.up_object.specs.Whole.{Whole}
 use Rattle.up_object.specs.Stands.{Asked, AsksStand, Tally, TallyStands, seat, reserved, leaves_after}
 
 -- how far a call has come: its pages are those from `first` up to `limit`, and those below `mark` are done
@@ -97,6 +100,11 @@ pub record FramesStand (banks : BankPair) (brings : FrameKind) (given back : Sto
   pub back_own : AllOwn banks back.items
   pub room : length back.items + length given.items + done.limit ≤ back.room + done.mark
 
+-- a page keeps its place in the queues: it wasn't changed, and it is asked for with DIRTY as before
+pub record Rests (birth : Birth) (e : Entry) (h : List Entry) (done : Done) (p : ℕ) : Type 0 where
+  pub undone : is_done done p ≡ false
+  pub unasked : asked birth (e ∷ h) DirtyAsk p ≡ asked birth h DirtyAsk p
+
 -- what an object keeps beside its pages and their marks
 pub record Rest : Type 0 where
   pub queue : Queue
@@ -114,6 +122,7 @@ pub record RestStands (rest : Rest) (pages : ℕ) (birth : Birth) (e : Entry) (h
   pub tallied : TallyStands rest.tally birth (up_to done.tally e h)
   pub epoch : newest_epoch h ≡ rest.newest
   pub leaving : rest.leaves ≡ reserved birth h
+  pub few : rest.leaves ≤ 128
   pub room : leaves_after e.call rest.leaves < rest.spare
 
 pub record ChangeStandsFor (banks : BankPair) (pages : PageMap) (marks : List Mark) (brings : FrameKind) (given back : Stock) (rest : Rest)
@@ -123,4 +132,18 @@ pub record ChangeStandsFor (banks : BankPair) (pages : PageMap) (marks : List Ma
   pub sized : size_of pages ≡ size birth h
   pub part : PagesStand banks pages marks birth e h done
   pub stock : FramesStand banks brings given back done
-  pub rest : RestStands rest (size_of pages) birth e h done
+  pub others : RestStands rest (size_of pages) birth e h done
+
+-- an object at the beginning of a call, with no page done
+abbrev pub opened : Whole → Entry → FrameKind → Stock → ℕ → ℕ → Counts → Change
+opened whole e brings given first limit frames = record {
+  birth = whole.birth;
+  journal = whole.journal;
+  entry = e;
+  banks = whole.banks;
+  brings = brings;
+  done = record { first = first; mark = first; limit = limit; asks = false; tally = false };
+  pages = size whole.birth whole.journal;
+  given = length given.items;
+  frames = frames;
+}

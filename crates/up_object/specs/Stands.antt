@@ -9,7 +9,7 @@ use Rattle.up_bank.specs.declared.kind.FrameKind.TheVariants.{Ordinary, Loaned}
 use Rattle.up_pages.specs.declared.page.Page.{Page}
 use Rattle.up_pages.specs.Pages.{PageMap, page_at, size_of, look_of as look_at}
 use Rattle.up_queues.specs.declared.queued.Queued.{Queued}
-use Rattle.up_queues.specs.Queue.{Queue, find_page}
+use Rattle.up_queues.specs.Queue.{Queue, find_page, chilled}
 use Rattle.up_model.specs.Size.{size}
 use Rattle.up_model.specs.Roles.{users, pagers, was_detached}
 use Rattle.up_model.specs.Asks.{same_kind, asked}
@@ -96,6 +96,11 @@ may_go look mark asks = is_spare look && ((mark.pins == 0) && (not mark.always &
 abbrev pub keyed_item : ℕ → Key → Queued
 keyed_item p key = record { page = page_number p; generation = key.generation; place = key.used; cold = key.cold }
 
+-- the item, called cold where a place is given
+abbrev pub recooled : Option ℕ → Queued → Queued
+recooled None item = item
+recooled (Some place) item = chilled place item
+
 -- what the queues are to have of a page
 abbrev pub item_of : PageMap → List Mark → List AskMark → ℕ → Option Queued
 item_of pages marks asks p =
@@ -114,4 +119,5 @@ pub record StandsFor (banks : BankPair) (pages : PageMap) (marks : List Mark) (q
   pub tallied : TallyStands tally birth h
   pub epoch : newest_epoch h ≡ newest
   pub leaving : leaves ≡ reserved birth h
+  pub few : leaves ≤ 128
   pub room : leaves ≤ spare

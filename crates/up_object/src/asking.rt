@@ -1,6 +1,6 @@
-ghost use Rattle.std.specs.Prelude.{◌≡◌, ◌+◌, ◌-◌, ◌<◌, ◌≤◌, [], ◌∷◌, OnOk, OnErr};
-ghost use Rattle.up_object.specs.Stands.{Asked, asked_in, is_about, is_of_kind, is_on_page};
-ghost use Rattle.up_num.specs.Asks.{same_kind};
+ghost use Rattle.std.specs.Prelude.{◌≡◌, ◌+◌, ◌-◌, ◌<◌, ◌≤◌, [], ◌∷◌, cond, OnOk, OnErr};
+ghost use Rattle.up_object.specs.Stands as stands;
+ghost use Rattle.up_object.specs.Stands.{asked_in, is_about};
 
 use std::alloc::Global;
 use std::marker::Model;
@@ -42,5 +42,49 @@ impl Asking {
             marks: Vec::new(alloc),
             places: 0,
         }
+    }
+
+    /// Whether a page is asked for with a kind.
+    pub fn asked(&self, kind: AskKind, page: u32) -> bool
+        ensures { result ≡ asked_in self.now.marks kind page }
+    {
+        let mut asked = false;
+        for mark in &self.marks {
+            asked = mark.said(kind, page, asked);
+        }
+        asked
+    }
+}
+
+impl AskMark {
+    /// What it says of a page and a kind, of which something was said before.
+    fn said(&self, kind: AskKind, page: u32, before: bool) -> bool
+        ensures { result ≡ cond (is_about self.now kind page) self.now.on before }
+    {
+        if is_of_kind(self.kind, kind) && is_on_page(self.pages, page) {
+            self.on
+        } else {
+            before
+        }
+    }
+}
+
+fn is_of_kind(one: Option<AskKind>, other: AskKind) -> bool
+    ensures { result ≡ stands.is_of_kind one other }
+{
+    match (one, other) {
+        (None, _) => true,
+        (Some(AskKind::Read), AskKind::Read) => true,
+        (Some(AskKind::Dirty), AskKind::Dirty) => true,
+        _ => false,
+    }
+}
+
+fn is_on_page(pages: Option<PageRange>, page: u32) -> bool
+    ensures { result ≡ stands.is_on_page pages page }
+{
+    match pages {
+        None => true,
+        Some(range) => range.first <= page && page <= range.first + (range.count - 1),
     }
 }

@@ -4,10 +4,12 @@
 
 mod asking;
 mod banks;
+mod closing;
 mod marks;
 mod moves;
 mod object;
 pub mod parts;
+mod seating;
 mod tally;
 
 pub use banks::Banks;

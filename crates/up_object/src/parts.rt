@@ -1,20 +1,29 @@
-ghost use Rattle.std.specs.Prelude.{◌≡◌, ℕ, ◌+◌, ◌-◌, ◌<◌, ◌≤◌, ◌==◌, ◌∷◌, true, false, length, None};
+ghost use Rattle.std.specs.Prelude.{◌≡◌, ℕ, ◌+◌, ◌-◌, ◌<◌, ◌≤◌, ◌==◌, ◌&&◌, ◌∷◌, true, false, length, nat_le, nat_lt, None, IfOk, IfErr, OnOk};
 ghost use Rattle.up_bank.specs.declared.kind.FrameKind.{FrameKind as FrameKindValue};
 ghost use Rattle.up_model.specs.Looks as looks;
 ghost use Rattle.up_model.specs.Use.{newest_epoch};
-ghost use Rattle.up_model.specs.Changes.{SamePage, SetsState, Reframes, Uses, Fills, Writes, PinsOne, UnpinsOne, Hints, Blanks, Goes};
-ghost use Rattle.up_object.specs.Parts.{shown, is_loan};
-ghost use Rattle.up_object.specs.Change.{next, next_using};
+ghost use Rattle.up_model.specs.Changes.{SamePage, SetsState, Reframes, Uses, Fills, Writes, PinsOne, UnpinsOne, Hints, Blanks, Goes, IsDue};
+ghost use Rattle.up_object.specs.Parts.{shown, is_loan, bank_of};
+ghost use Rattle.up_object.specs.Change.{next, next_using, is_done, of_kind, opened, AllAre, AllOwn, Rests};
+ghost use Rattle.up_object.specs.Whole.{held};
+ghost use Rattle.up_pages.specs.Frames.{count_kind};
+ghost use Rattle.up_pages.specs.Pages.{page_at, size_of};
+ghost use Rattle.up_model.specs.Size.{size};
+ghost use Rattle.up_model.specs.Concerns.{concerns, keeps_asks, keeps_roles, keeps_modified, keeps_size};
 
 use crate::asking::Asking;
 use crate::banks::Banks;
+use crate::closing::{hand_over, leaves_left};
 use crate::marks::{Key, Mark, Marks};
 use crate::moves::{copy_to, lacks_own, last_of, state_in};
+use crate::object::Object;
+use crate::seating::settle;
 use crate::tally::Tally;
+use std::alloc::{AllocError, Global};
 use std::marker::Model;
 use up_bank::FrameKind;
 use up_model::{Birth, Entry, Log};
-use up_num::{PageNo, PageState};
+use up_num::{Memory, PageNo, PageState};
 use up_pages::{Frames, Look, PageList};
 use up_queues::Queues;
 
@@ -297,5 +306,155 @@ impl Changing {
         self.back.put_some(displaced);
         self.marks.set(self.mark, Mark { key, ..old });
         self.mark += 1;
+    }
+
+    /// Ends the call: what wasn't changed is as before, and the pages from one on, up to another, get their places in the queues anew.
+    /// It gives the object, and all frames that weren't used or came back.
+    pub fn close(self, from: u32, to: u32) -> (Object, Frames)
+        requires order { from ≤ to }
+        requires bound { to ≤ self.pages }
+        requires pages { (p : ℕ) → is_done self.done p ≡ false → concerns self.birth self.journal self.entry p ≡ false }
+        requires places { (p : ℕ) → (nat_le from p && nat_lt p to) ≡ false → Rests self.birth self.entry self.journal self.done p }
+        requires asks { self.done.asks ≡ false → keeps_asks self.entry ≡ true }
+        requires tally { self.done.tally ≡ false → (keeps_roles self.entry && keeps_modified self.entry) ≡ true }
+        requires size { keeps_size self.entry ≡ true }
+        requires due { IsDue self.birth self.entry self.journal }
+        ensures object { result.0 ≡ record { birth = self.birth; journal = self.entry ∷ self.journal; banks = self.banks } }
+        ensures frames { (kind : FrameKindValue) → count_kind kind result.1.items + held self.birth (self.entry ∷ self.journal) kind ≡ of_kind kind self.frames }
+        ensures own { AllOwn self.banks result.1.items }
+    {
+        let Changing {
+            birth,
+            banks,
+            pages,
+            marks,
+            mut queues,
+            asking,
+            tally,
+            newest,
+            leaves,
+            mut log,
+            entry,
+            brings: _,
+            given,
+            mut back,
+            first: _,
+            mark: _,
+            limit: _,
+            asks_done: _,
+            tally_done: _,
+        } = self;
+        settle(&pages, &marks, &asking, &mut queues, from, to);
+        hand_over(given, &mut back);
+        let newest = entry.epoch.max(newest);
+        let leaves = leaves_left(&entry.call, leaves);
+        log.push(entry);
+        let object = Object {
+            birth,
+            banks,
+            pages,
+            marks,
+            queues,
+            asking,
+            tally,
+            newest,
+            leaves,
+            log,
+        };
+        (object, back)
+    }
+}
+
+/// Takes the room that a call may need: for its entry above those reserved for leaves, for changes of its pages, and for frames that come back.
+fn take_room(log: &mut Log, pages: &mut PageList, back: &mut Frames, leaves: u32, changes: u32, frames: u32) -> Result<(), Memory>
+    requires few { leaves ≤ 128 }
+    ensures entries { log.new.entries ≡ log.old.entries }
+    ensures spare { log.old.spare ≤ log.new.spare }
+    ensures pages { (p : ℕ) → page_at pages.new p ≡ page_at pages.old p }
+    ensures size { size_of pages.new ≡ size_of pages.old }
+    ensures items { back.new.items ≡ back.old.items }
+    ensures enough { OnOk result (leaves < log.new.spare) }
+    ensures ready { OnOk result (changes ≤ pages.new.spare) }
+    ensures room { OnOk result (length back.new.items + frames ≤ back.new.room) }
+{
+    log.room(leaves + 1)?;
+    pages.reserve(changes)?;
+    back.make_room(frames)
+}
+
+/// Begins a call on the pages from one on, up to another, with frames of this kind.
+pub fn open(
+    object: Object,
+    alloc: Global,
+    entry: Entry,
+    brings: FrameKind,
+    given: Frames,
+    first: u32,
+    limit: u32,
+) -> Result<Changing, (Memory, Object, Frames)>
+    requires order { first ≤ limit }
+    requires fits { limit ≤ size object.birth object.journal }
+    requires own { AllAre (bank_of object.banks brings) given.items }
+    ensures ok { IfOk result (λ change. change ≡ opened object entry brings given first limit change.frames) }
+    ensures frames { IfOk result (λ change. (kind : FrameKindValue) → of_kind kind change.frames ≡ count_kind kind given.items + held object.birth object.journal kind) }
+    ensures same { IfErr result (λ failed. failed.1 ≡ object) }
+    ensures back { IfErr result (λ failed. failed.2 ≡ given) }
+{
+    let Object {
+        birth,
+        banks,
+        mut pages,
+        marks,
+        queues,
+        asking,
+        tally,
+        newest,
+        leaves,
+        mut log,
+    } = object;
+    let mut back = Frames::new(alloc);
+    let reserved = leaves_left(&entry.call, leaves);
+    let taken = match given.len().checked_add(limit - first) {
+        Some(frames) => take_room(&mut log, &mut pages, &mut back, reserved, limit - first, frames),
+        None => Err(AllocError),
+    };
+    match taken {
+        Ok(()) => Ok(Changing {
+            birth,
+            banks,
+            pages,
+            marks,
+            queues,
+            asking,
+            tally,
+            newest,
+            leaves,
+            log,
+            entry,
+            brings,
+            given,
+            back,
+            first,
+            mark: first,
+            limit,
+            asks_done: false,
+            tally_done: false,
+        }),
+        Err(memory) => {
+            back.end();
+            let object = Object {
+                birth,
+                banks,
+                pages,
+                marks,
+                queues,
+                asking,
+                tally,
+                newest,
+                leaves,
+                log,
+            };
+            Err((memory, object, given))
+        }
     }
 }
