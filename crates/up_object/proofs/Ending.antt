@@ -1,5 +1,5 @@
 -- The end of a call: all parts stand for the journal with its entry. And the beginning of one.
-use Rattle.std.proofs.Common.{◌≡◌, ℕ, ◌+◌, ◌-◌, ◌<◌, ◌≤◌, ◌==◌, ◌&&◌, not, Bool, true, false, cond, Option, Some, None, List, [], ◌∷◌, length, zero, suc, refl, ap, sym, ◌∙◌, subst, arith, nat_le, nat_lt}
+use Rattle.std.proofs.Common.{◌≡◌, ℕ, ◌+◌, ◌-◌, ◌*◌, ◌<◌, ◌≤◌, ◌==◌, ◌&&◌, not, Bool, true, false, cond, Option, Some, None, List, [], ◌∷◌, ◌++◌, length, zero, suc, refl, ap, sym, ◌∙◌, subst, arith, nat_le, nat_lt}
 use Rattle.std.specs.Prelude.{max}
 use Rattle.std.proofs.lemmas.Bool.{and_parts}
 use Rattle.std.proofs.lemmas.Bool.Decides.{nat_tests}
@@ -27,8 +27,11 @@ use Rattle.up_model.specs.declared.entry.Entry.{Entry}
 use Rattle.up_model.proofs.Quiet.{untouched}
 use Rattle.up_model.proofs.Kept.{kept_asks, kept_roles, kept_modified, kept_size}
 use Rattle.up_object.specs.declared.marks.Mark.{Mark}
-use Rattle.up_object.specs.Parts.{BankPair, bank_of, is_loan, PageStands, shown, mark_at}
-use Rattle.up_object.specs.Stands.{Asked, AsksStand, Tally, TallyStands, seat, item_of, reserved, leaves_after, is_leave, leave_calls, StandsFor}
+use Rattle.up_object.specs.Parts.{BankPair, bank_of, is_loan, PageStands, shown, no_mark, mark_at}
+use Rattle.up_object.specs.declared.asking.AskMark.{AskMark}
+use Rattle.up_queues.specs.declared.queued.Queued.{Queued}
+use Rattle.up_model.proofs.Equations.{value_none}
+use Rattle.up_object.specs.Stands.{Asked, AsksStand, Tally, TallyStands, asked_in, seat, item_of, reserved, leaves_after, is_leave, leave_calls, StandsFor}
 use Rattle.up_object.specs.Change.{Done, Rest, RestStands, Counts, of_kind, counts_of, frames_in_all, is_done, up_to, PagesStand, FramesStand, AllAre, AllOwn, Rests, ChangeStandsFor}
 use Rattle.up_object.specs.Whole.{held, is_framed_by, same_loan}
 use Rattle.up_object.proofs.Turning.{keeps_page, kind_given}
@@ -147,3 +150,110 @@ pub frames_end : (kind : FrameKind) (given back back' : List Frame) (pages : Pag
 frames_end kind given back back' pages held_now all same over is =
     let whole : of_kind kind all ≡ count_kind kind given + (count_kind kind back + held_by kind pages) = ap (of_kind kind) (sym same) ∙ of_counts kind given back pages in
     omega arith
+
+parts_own : (banks : BankPair) (xs : List Frame) (frame : Frame) → AllOwn banks (xs ++ frame ∷ []) → AllOwn banks xs × (frame.bank ≡ bank_of banks frame.bank.kind)
+parts_own banks [] frame all = (tt, all.0)
+parts_own banks (x ∷ xs) frame all = let rest = parts_own banks xs frame all.1 in ((all.0, rest.0), rest.1)
+
+join_own : (banks : BankPair) (xs : List Frame) (frame : Frame) → AllOwn banks xs → frame.bank ≡ bank_of banks frame.bank.kind → AllOwn banks (xs ++ frame ∷ [])
+join_own banks [] frame all is = (is, tt)
+join_own banks (x ∷ xs) frame all is = (all.0, join_own banks xs frame all.1 is)
+
+pub own_move : (banks : BankPair) (given given' back back' : List Frame) (frame : Frame) → given ≡ given' ++ frame ∷ [] → back' ≡ back ++ frame ∷ [] → AllOwn banks given → AllOwn banks back → AllOwn banks given' × AllOwn banks back'
+own_move banks given given' back back' frame taken put all had =
+    let parts = parts_own banks given' frame (subst (λ (xs : List Frame). AllOwn banks xs) taken all) in
+    (parts.0, subst (λ (xs : List Frame). AllOwn banks xs) (sym put) (join_own banks back frame had parts.1))
+
+pub empty_list : (xs : List Frame) (n m : ℕ) → length xs + n ≡ m → m ≤ n → xs ≡ []
+empty_list [] n m is low = refl
+empty_list (x ∷ xs) n m is low = absurd (omega arith)
+
+-- The beginning of a call.
+
+undone : (first p : ℕ) → (nat_le first p && nat_lt p first) ≡ false
+undone first p = grind (arith, nat_tests)
+
+pub begins : (banks : BankPair) (pages pages' : PageMap) (marks : List Mark) (queue : Queue) (asking : Asked) (tally : Tally) (newest leaves spare spare' : ℕ) (birth : Birth) (h h' : List Entry) (e : Entry) (brings : FrameKind) (given back : Stock) (first limit : ℕ) →
+    StandsFor banks pages marks queue asking tally newest leaves spare birth h → h' ≡ h → ((p : ℕ) → page_at pages' p ≡ page_at pages p) → size_of pages' ≡ size_of pages → first ≤ limit → limit ≤ size birth h →
+    AllAre (bank_of banks brings) given.items → back.items ≡ [] → length back.items + (length given.items + (limit - first)) ≤ back.room → limit - first ≤ pages'.spare → leaves_after e.call leaves < spare' →
+    ChangeStandsFor banks pages' marks brings given back (record { queue = queue; asked = asking; tally = tally; newest = newest; leaves = leaves; spare = spare' }) birth e h'
+    (record { first = first; mark = first; limit = limit; asks = false; tally = false })
+begins banks pages pages' marks queue asking tally newest leaves spare spare' birth h h' e brings given back first limit s same puts sized order fits own none room ready enough = rw same (record {
+  legal = s.legal;
+  kinds = s.kinds;
+  sized = sized ∙ s.sized;
+  part = record {
+    each = λ p. rw (undone first p, puts p) (s.each p);
+    marked = s.marked ∙ sym sized;
+    order = omega arith;
+    ends = order;
+    fits = subst (λ (n : ℕ). limit ≤ n) (sym (sized ∙ s.sized)) fits;
+    ready = omega arith;
+  };
+  stock = record {
+    given_own = own;
+    back_own = subst (λ (xs : List Frame). AllOwn banks xs) (sym none) tt;
+    room = omega arith;
+  };
+  others = record {
+    queued = s.queued;
+    wide = subst (λ (n : ℕ). n ≤ queue.room) (sym sized) s.wide;
+    asks = s.asks;
+    tallied = s.tallied;
+    epoch = s.epoch;
+    leaving = s.leaving;
+    few = s.few;
+    room = enough;
+  };
+})
+
+add_none : (g b n m : ℕ) → b ≡ 0 → n ≡ m → g + (b + n) ≡ g + m
+add_none g b n m none same = omega arith
+
+pub none_left : (g b s : ℕ) → g ≡ 0 → g + b ≡ s → b ≡ s
+none_left g b s none is = omega arith
+
+pub frames_begin : (kind : FrameKind) (banks : BankPair) (pages pages' : PageMap) (marks : List Mark) (given back : List Frame) (birth : Birth) (h : List Entry) → back ≡ [] →
+    ((p : ℕ) → PageStands banks (page_at pages p) (mark_at marks p) birth h p) → size_of pages ≡ size birth h → ((p : ℕ) → page_at pages' p ≡ page_at pages p) → size_of pages' ≡ size_of pages →
+    of_kind kind (counts_of given back pages') ≡ count_kind kind given + held birth h kind
+frames_begin kind banks pages pages' marks given back birth h none stand sized puts same =
+    let now = held_is banks pages' marks birth h kind (λ p. rw (puts p) (stand p)) (same ∙ sized) in
+    of_counts kind given back pages' ∙ add_none (count_kind kind given) (count_kind kind back) (held_by kind pages') (held birth h kind) (ap (λ (xs : List Frame). count_kind kind xs) none) now
+
+-- A new object.
+
+first_page : (banks : BankPair) (page : Page) (mark : Mark) (birth : Birth) (p : ℕ) → page ≡ Absent → mark ≡ no_mark → PageStands banks page mark birth [] p
+first_page banks page mark birth p gone bare = rw (gone, bare) (record {
+  looks = rw (value_none birth (4096 * p)) refl;
+  bytes = λ i lt. value_none birth (4096 * p + i);
+  owned = tt;
+  pinned = refl;
+  protected = refl;
+  keyed = λ framed. absurd cc;
+})
+
+first_seat : (birth : Birth) (p : ℕ) → seat birth [] p ≡ None
+first_seat birth p = rw (value_none birth (4096 * p)) refl
+
+no_leaves : (n : ℕ) → n ≡ n - 0
+no_leaves n = omega arith
+
+pub first_stands : (banks : BankPair) (pages : PageMap) (marks : List Mark) (queue : Queue) (asking : Asked) (tally : Tally) (leaves spare : ℕ) (birth : Birth) (h : List Entry) →
+    (banks.ordinary.kind ≡ Ordinary) × (banks.loaned.kind ≡ Loaned) → h ≡ [] → size_of pages ≡ birth.pages → ((p : ℕ) → page_at pages p ≡ Absent) → length marks ≡ birth.pages → ((p : ℕ) → mark_at marks p ≡ no_mark) →
+    queue.items ≡ [] → birth.pages ≤ queue.room → asking.marks ≡ [] → tally ≡ record { users = birth.users; pagers = birth.pagers; cut = false; modified = false } → leaves ≡ birth.users + birth.pagers → leaves ≤ 128 → leaves ≤ spare →
+    StandsFor banks pages marks queue asking tally 0 leaves spare birth h
+first_stands banks pages marks queue asking tally leaves spare birth h kinds none sized gone marked bare empty wide unasked counted reserve few room = rw (none, counted) (record {
+  legal = tt;
+  kinds = kinds;
+  sized = sized;
+  each = λ p. first_page banks (page_at pages p) (mark_at marks p) birth p (gone p) (bare p);
+  marked = marked ∙ sym sized;
+  queued = λ p. ap (λ (xs : List Queued). find_page xs p) empty ∙ sym (first_seat birth p);
+  wide = subst (λ (n : ℕ). n ≤ queue.room) (sym sized) wide;
+  asks = record { pages = λ kind p. ap (λ (xs : List AskMark). asked_in xs kind p) unasked };
+  tallied = record { acting = refl; paging = refl; cut_off = refl; changed = refl };
+  epoch = refl;
+  leaving = reserve ∙ no_leaves (birth.users + birth.pagers);
+  few = few;
+  room = room;
+})

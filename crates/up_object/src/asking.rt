@@ -1,4 +1,4 @@
-ghost use Rattle.std.specs.Prelude.{◌≡◌, ◌+◌, ◌-◌, ◌<◌, ◌≤◌, [], ◌∷◌, cond, OnOk, OnErr};
+ghost use Rattle.std.specs.Prelude.{◌≡◌, ◌+◌, ◌-◌, ◌<◌, ◌≤◌, [], ◌∷◌, cond, reverse, OnOk, OnErr};
 ghost use Rattle.up_object.specs.Stands as stands;
 ghost use Rattle.up_object.specs.Stands.{asked_in, is_about};
 
@@ -48,12 +48,19 @@ impl Asking {
     pub fn asked(&self, kind: AskKind, page: u32) -> bool
         ensures { result ≡ asked_in self.now.marks kind page }
     {
-        let mut asked = false;
-        for mark in &self.marks {
-            asked = mark.said(kind, page, asked);
-        }
-        asked
+        last_said(self.marks.as_slice(), kind, page)
     }
+}
+
+/// What the last of some words on a page and a kind says.
+fn last_said(marks: &[AskMark], kind: AskKind, page: u32) -> bool
+    ensures { result ≡ asked_in (reverse marks.now) kind page }
+{
+    let mut asked = false;
+    for mark in marks {
+        asked = mark.said(kind, page, asked);
+    }
+    asked
 }
 
 impl AskMark {

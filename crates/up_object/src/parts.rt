@@ -5,7 +5,7 @@ ghost use Rattle.up_model.specs.Use.{newest_epoch};
 ghost use Rattle.up_model.specs.Changes.{SamePage, SetsState, Reframes, Uses, Fills, Writes, PinsOne, UnpinsOne, Hints, Blanks, Goes, IsDue};
 ghost use Rattle.up_object.specs.Parts.{shown, is_loan, bank_of};
 ghost use Rattle.up_object.specs.Change.{next, next_using, is_done, of_kind, opened, AllAre, AllOwn, Rests};
-ghost use Rattle.up_object.specs.Whole.{held};
+ghost use Rattle.up_object.specs.Whole.{held, with_entry};
 ghost use Rattle.up_pages.specs.Frames.{count_kind};
 ghost use Rattle.up_pages.specs.Pages.{page_at, size_of};
 ghost use Rattle.up_model.specs.Size.{size};
@@ -366,7 +366,7 @@ impl Changing {
 }
 
 /// Takes the room that a call may need: for its entry above those reserved for leaves, for changes of its pages, and for frames that come back.
-fn take_room(log: &mut Log, pages: &mut PageList, back: &mut Frames, leaves: u32, changes: u32, frames: u32) -> Result<(), Memory>
+fn take_room(log: &mut Log, pages: &mut PageList, back: &mut Frames, leaves: u32, changes: u32, given: u32) -> Result<(), Memory>
     requires few { leaves ≤ 128 }
     ensures entries { log.new.entries ≡ log.old.entries }
     ensures spare { log.old.spare ≤ log.new.spare }
@@ -375,8 +375,11 @@ fn take_room(log: &mut Log, pages: &mut PageList, back: &mut Frames, leaves: u32
     ensures items { back.new.items ≡ back.old.items }
     ensures enough { OnOk result (leaves < log.new.spare) }
     ensures ready { OnOk result (changes ≤ pages.new.spare) }
-    ensures room { OnOk result (length back.new.items + frames ≤ back.new.room) }
+    ensures room { OnOk result (length back.new.items + (given + changes) ≤ back.new.room) }
 {
+    let Some(frames) = given.checked_add(changes) else {
+        return Err(AllocError);
+    };
     log.room(leaves + 1)?;
     pages.reserve(changes)?;
     back.make_room(frames)
@@ -414,11 +417,8 @@ pub fn open(
     } = object;
     let mut back = Frames::new(alloc);
     let reserved = leaves_left(&entry.call, leaves);
-    let taken = match given.len().checked_add(limit - first) {
-        Some(frames) => take_room(&mut log, &mut pages, &mut back, reserved, limit - first, frames),
-        None => Err(AllocError),
-    };
-    match taken {
+    let count = given.len();
+    match take_room(&mut log, &mut pages, &mut back, reserved, limit - first, count) {
         Ok(()) => Ok(Changing {
             birth,
             banks,
@@ -456,5 +456,25 @@ pub fn open(
             };
             Err((memory, object, given))
         }
+    }
+}
+
+/// Makes a call that changes no part: only the journal grows. All frames that were given come back.
+pub fn note(object: Object, alloc: Global, entry: Entry, brings: FrameKind, given: Frames) -> Result<(Object, Frames), (Memory, Object, Frames)>
+    requires own { AllAre (bank_of object.banks brings) given.items }
+    requires pages { (p : ℕ) → concerns object.birth object.journal entry p ≡ false }
+    requires asks { keeps_asks entry ≡ true }
+    requires tally { (keeps_roles entry && keeps_modified entry) ≡ true }
+    requires size { keeps_size entry ≡ true }
+    requires due { IsDue object.birth entry object.journal }
+    ensures ok { IfOk result (λ done. done.0 ≡ with_entry object entry) }
+    ensures frames { IfOk result (λ done. (kind : FrameKindValue) → count_kind kind done.1.items + held object.birth (entry ∷ object.journal) kind ≡ count_kind kind given.items + held object.birth object.journal kind) }
+    ensures own { IfOk result (λ done. AllOwn object.banks done.1.items) }
+    ensures same { IfErr result (λ failed. failed.1 ≡ object) }
+    ensures back { IfErr result (λ failed. failed.2 ≡ given) }
+{
+    match open(object, alloc, entry, brings, given, 0, 0) {
+        Ok(changing) => Ok(changing.close(0, 0)),
+        Err(failed) => Err(failed),
     }
 }
