@@ -100,9 +100,9 @@ run_passes test p zero q low high = absurd (omega arith)
 run_passes test p (suc n) q low high =
     elim (test p) as (λ b. test p ≡ b → q < p + cond b (suc (run_of test (p + 1) n)) 0 → test q ≡ true) [
       | true ↦ λ is near. elim (cases_eq q p) [
-          | inl same ↦ ap test same ∙ is
-          | inr other ↦ run_passes test (p + 1) n q (omega arith) (omega arith)
-        ]
+        | inl same ↦ ap test same ∙ is
+        | inr other ↦ run_passes test (p + 1) n q (omega arith) (omega arith)
+      ]
       | false ↦ λ is near. absurd (omega arith)
     ] refl high
 
@@ -154,11 +154,11 @@ pub asks_now : (birth : Birth) (e : Entry) (before : List Entry) → Legal birth
 asks_now birth e before legal k p is =
     elim (is_blocked e.reply) as (λ b. is_blocked e.reply ≡ b → asks (cond b (option_map (want birth before) (attempt before e)) None) k p ≡ true → AsksNow birth e before k p) [
       | true ↦ λ blocked now. let one = entry_blocked birth e before legal blocked in record {
-          blocked = blocked;
-          a = one.a;
-          why = one.why;
-          wants = wants_page birth before one.a k p (subst (λ (m : Option Access). asks (option_map (want birth before) m) k p ≡ true) one.attempted now);
-        }
+        blocked = blocked;
+        a = one.a;
+        why = one.why;
+        wants = wants_page birth before one.a k p (subst (λ (m : Option Access). asks (option_map (want birth before) m) k p ≡ true) one.attempted now);
+      }
       | false ↦ λ unblocked now. absurd cc
     ] refl is
 

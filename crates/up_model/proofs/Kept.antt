@@ -105,17 +105,17 @@ cut_kept e h k = cut_by e.call e.reply (was_detached h) k
 pub kept_roles : (birth : Birth) (e : Entry) (h : List Entry) → keeps_roles e ≡ true → SameRoles birth e h
 kept_roles birth e h is = elim (or_cases (not (accepts e.reply)) _ is) [
   | inl refused ↦ let no = not_true _ refused in record {
-      acting = users_refused birth e h no;
-      paging = pagers_refused birth e h no;
-      cut_off = rw (no, and_false (is_detach e.call)) refl;
-      attached = detached_refused birth e h no;
-    }
+    acting = users_refused birth e h no;
+    paging = pagers_refused birth e h no;
+    cut_off = rw (no, and_false (is_detach e.call)) refl;
+    attached = detached_refused birth e h no;
+  }
   | inr other ↦ let stay = staying e.call other in record {
-      acting = users_kept birth e h stay;
-      paging = pagers_kept birth e h stay;
-      cut_off = cut_kept e h stay;
-      attached = detached_kept birth e h stay;
-    }
+    acting = users_kept birth e h stay;
+    paging = pagers_kept birth e h stay;
+    cut_off = cut_kept e h stay;
+    attached = detached_kept birth e h stay;
+  }
 ]
 
 -- Whether the object was changed.

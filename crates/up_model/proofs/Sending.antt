@@ -154,7 +154,7 @@ pub packets_added : (birth : Birth) (e : Entry) (before : List Entry) → Legal 
 packets_added birth e before legal =
     let more = requested_more birth e before in
     let all = added (detached birth before) (detached birth (e ∷ before)) (requested birth before) more.0 (detached_stays birth e before)
-        (λ gone. more.2 (detached_parks_none birth e before legal gone)) in
+    (λ gone. more.2 (detached_parks_none birth e before legal gone)) in
     (all.0, rw more.1 all.1)
 
 pub taken_below : (birth : Birth) (e : Entry) (before : List Entry) → Legal birth (e ∷ before) → is_packet e.reply ≡ true → taken before < length (sent birth before)

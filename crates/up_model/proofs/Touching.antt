@@ -449,11 +449,11 @@ supply_fills birth e h range bytes brought p given legal c a o low whole gone sa
     let absent = missing_so (there birth h p) (marked birth h p) (settled birth h p) (begun birth h p) (loaned birth h p) gone in record {
       missing = gone;
       looks = look_by_parts birth (e ∷ h) p true false (begun birth (e ∷ h) p) true false (record {
-          here = subst (λ (x : ℕ). is_some (value birth (e ∷ h) x) ≡ true) (zeroth p) (there_supply birth e h range bytes brought p 0 c a bounds.0 bounds.1 whole (omega arith));
-          mark = marked_supply birth e h range bytes brought p c a o ∙ rw absent refl;
-          begin = refl;
-          settle = settled_supply birth e h range bytes brought p c ∙ absent_settled birth h legal p low absent;
-        }) (rw c (unloaned birth h legal p absent));
+        here = subst (λ (x : ℕ). is_some (value birth (e ∷ h) x) ≡ true) (zeroth p) (there_supply birth e h range bytes brought p 0 c a bounds.0 bounds.1 whole (omega arith));
+        mark = marked_supply birth e h range bytes brought p c a o ∙ rw absent refl;
+        begin = refl;
+        settle = settled_supply birth e h range bytes brought p c ∙ absent_settled birth h legal p low absent;
+      }) (rw c (unloaned birth h legal p absent));
       bytes = λ i lt. value_supply birth e h range bytes brought (4096 * p + i) c a (rw (page_inside p i lt) o)
           ∙ rw (no_byte birth h legal p i lt absent) (given_byte range bytes p i given bounds.0 bounds.1 whole lt (same i lt));
       marks = record { pinned = rw c refl; protected = rw c refl };
@@ -466,13 +466,13 @@ pub supply_keeps : (birth : Birth) (e : Entry) (h : List Entry) (range : Span) (
 supply_keeps birth e h range bytes brought p legal c a o present =
     let here = here_so (there birth h p) (marked birth h p) (settled birth h p) (begun birth h p) (loaned birth h p) present in
     let kept : (i : ℕ) → i < 4096 → value birth (e ∷ h) (4096 * p + i) ≡ value birth h (4096 * p + i) =
-        λ i lt. value_supply birth e h range bytes brought (4096 * p + i) c a (rw (page_inside p i lt) o) ∙ first_stays (value birth h (4096 * p + i)) _ (bytes_stand birth h legal p i lt ∙ here) in record {
+    λ i lt. value_supply birth e h range bytes brought (4096 * p + i) c a (rw (page_inside p i lt) o) ∙ first_stays (value birth h (4096 * p + i)) _ (bytes_stand birth h legal p i lt ∙ here) in record {
       looks = look_by_parts birth (e ∷ h) p _ _ _ _ _ (record {
-          here = ap is_some (subst (λ (x : ℕ). value birth (e ∷ h) x ≡ value birth h x) (zeroth p) (kept 0 (omega arith)));
-          mark = marked_supply birth e h range bytes brought p c a o ∙ rw here refl;
-          begin = begun_supply birth e h range bytes brought p c;
-          settle = settled_supply birth e h range bytes brought p c;
-        }) (rw c refl);
+        here = ap is_some (subst (λ (x : ℕ). value birth (e ∷ h) x ≡ value birth h x) (zeroth p) (kept 0 (omega arith)));
+        mark = marked_supply birth e h range bytes brought p c a o ∙ rw here refl;
+        begin = begun_supply birth e h range bytes brought p c;
+        settle = settled_supply birth e h range bytes brought p c;
+      }) (rw c refl);
       bytes = kept;
       marks = record { pinned = rw c refl; protected = rw c refl };
       usage = record { used = rw (c, a, o, here) refl; aged = rw (c, a, o, here) refl; chilled = rw (c, a, o, here) refl };

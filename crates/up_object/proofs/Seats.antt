@@ -108,11 +108,11 @@ fewer_items zero q items ordered none low gone = absurd (omega arith)
 fewer_items (suc n) q items ordered none low gone = elim (cases_eq q n) [
   | inl same ↦ let rest = few_items n items ordered (λ p from. below items n p none (subst (λ (m : ℕ). find_page items m ≡ None) same gone) from) in omega arith
   | inr other ↦ elim (find_page items n) as (λ o. find_page items n ≡ o → length items < suc n) [
-      | None ↦ λ w. let rest = fewer_items n q items ordered (λ p from. below items n p none w from) (omega arith) gone in omega arith
-      | Some y ↦ λ w. let less = one_less items n y ordered w in
-          let rest = fewer_items n q less.others less.ordered (λ p from. less.finds p ∙ gone_at items n p none from) (omega arith) (less.finds q ∙ none_either (n == q) _ gone) in
-          let long = less.long in omega arith
-    ] refl
+    | None ↦ λ w. let rest = fewer_items n q items ordered (λ p from. below items n p none w from) (omega arith) gone in omega arith
+    | Some y ↦ λ w. let less = one_less items n y ordered w in
+        let rest = fewer_items n q less.others less.ordered (λ p from. less.finds p ∙ gone_at items n p none from) (omega arith) (less.finds q ∙ none_either (n == q) _ gone) in
+        let long = less.long in omega arith
+  ] refl
 ]
 
 -- What a page's place is.
@@ -151,7 +151,7 @@ pub seat_is : (banks : BankPair) (page : Page) (mark : Mark) (asks : Bool) (birt
     cond (may_go (shown (look_at page)) mark asks) (Some (keyed_item p mark.key)) None ≡ seat birth h p
 seat_is banks page mark asks birth h p s same =
     let test : loose birth h p ≡ may_go (shown (look_at page)) mark asks = loose_is birth h p
-        ∙ (λ i. is_spare (s.looks i) && ((s.pinned i == 0) && (not (s.protected i) && not (sym same i)))) in
+    ∙ (λ i. is_spare (s.looks i) && ((s.pinned i == 0) && (not (s.protected i) && not (sym same i)))) in
     seat_by (may_go (shown (look_at page)) mark asks) (loose birth h p) (keyed_item p mark.key) (queued birth h p) test
     (λ goes. item_is birth h p mark.key (s.keyed (spare_framed (shown (look_at page)) _ goes)))
 
@@ -159,7 +159,7 @@ seat_is banks page mark asks birth h p s same =
 pub seat_stays : (birth : Birth) (e : Entry) (h : List Entry) (p : ℕ) → SamePage birth e h p → asked birth (e ∷ h) DirtyAsk p ≡ asked birth h DirtyAsk p → seat birth (e ∷ h) p ≡ seat birth h p
 seat_stays birth e h p s same =
     let test : loose birth (e ∷ h) p ≡ loose birth h p = loose_is birth (e ∷ h) p
-        ∙ (λ i. is_spare (s.looks i) && ((s.marks.pinned i == 0) && (not (s.marks.protected i) && not (same i)))) ∙ sym (loose_is birth h p) in
+    ∙ (λ i. is_spare (s.looks i) && ((s.marks.pinned i == 0) && (not (s.marks.protected i) && not (same i)))) ∙ sym (loose_is birth h p) in
     λ i. cond (test i) (Some (record { page = page_number p; generation = s.usage.aged i; place = position_of (s.usage.used i); cold = s.usage.chilled i })) None
 
 -- past the object's end no page has a seat

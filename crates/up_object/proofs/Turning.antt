@@ -316,16 +316,16 @@ written_over old new at i whole fits lt = elim (cases_lt i at) [
       ap (λ (b : ℕ). Some b) (get_or-append (take at old) (new ++ drop (at + length new) old) 0 i (omega arith) ∙ get_or-take at old i 0 below)
       ∙ sym (over_before at new i (get_or old i 0) below)
   | inr from ↦ elim (cases_lt i (at + length new)) [
-      | inl inside ↦ let front : length (take at old) ≡ at = length-take-le at old (omega arith) in
-          ap (λ (b : ℕ). Some b) (get_or-append_right (take at old) (new ++ drop (at + length new) old) i 0 (omega arith) ∙ ap (λ (n : ℕ). get_or (new ++ drop (at + length new) old) (i - n) 0) front
-          ∙ get_or-append new (drop (at + length new) old) 0 (i - at) (omega arith))
-          ∙ sym (over_inside at new i (get_or old i 0) from (omega arith))
-      | inr past ↦ let front : length (take at old) ≡ at = length-take-le at old (omega arith) in
-          ap (λ (b : ℕ). Some b) (get_or-append_right (take at old) (new ++ drop (at + length new) old) i 0 (omega arith) ∙ ap (λ (n : ℕ). get_or (new ++ drop (at + length new) old) (i - n) 0) front
-          ∙ get_or-append_right new (drop (at + length new) old) (i - at) 0 (omega arith) ∙ get_or-drop (at + length new) old (i - at - length new) 0
-          ∙ ap (λ (n : ℕ). get_or old n 0) (omega arith))
-          ∙ sym (over_after at new i (get_or old i 0) from (omega arith))
-    ]
+    | inl inside ↦ let front : length (take at old) ≡ at = length-take-le at old (omega arith) in
+        ap (λ (b : ℕ). Some b) (get_or-append_right (take at old) (new ++ drop (at + length new) old) i 0 (omega arith) ∙ ap (λ (n : ℕ). get_or (new ++ drop (at + length new) old) (i - n) 0) front
+        ∙ get_or-append new (drop (at + length new) old) 0 (i - at) (omega arith))
+        ∙ sym (over_inside at new i (get_or old i 0) from (omega arith))
+    | inr past ↦ let front : length (take at old) ≡ at = length-take-le at old (omega arith) in
+        ap (λ (b : ℕ). Some b) (get_or-append_right (take at old) (new ++ drop (at + length new) old) i 0 (omega arith) ∙ ap (λ (n : ℕ). get_or (new ++ drop (at + length new) old) (i - n) 0) front
+        ∙ get_or-append_right new (drop (at + length new) old) (i - at) 0 (omega arith) ∙ get_or-drop (at + length new) old (i - at - length new) 0
+        ∙ ap (λ (n : ℕ). get_or old n 0) (omega arith))
+        ∙ sym (over_after at new i (get_or old i 0) from (omega arith))
+  ]
 ]
 
 pub written_length : (old new : List ℕ) (at : ℕ) → length old ≡ 4096 → at + length new ≤ 4096 → length (written old at new) ≡ 4096

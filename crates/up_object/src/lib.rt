@@ -12,8 +12,8 @@ pub mod parts;
 mod seating;
 mod tally;
 
-pub use banks::Banks;
 pub use asking::AskMark;
+pub use banks::Banks;
 pub use marks::{Key, Mark};
 pub use object::Object;
 pub use tally::Tally;

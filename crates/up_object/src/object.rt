@@ -50,7 +50,12 @@ impl Model for Object {
 
 impl Object {
     /// A new object of so many absent pages, whose frames will be of these banks. It takes room for the entries of all leaves.
-    pub fn birth(alloc: Global, birth: Birth, ordinary: &Bank, loaned: &Bank) -> Result<Object, Memory>
+    pub fn birth(
+        alloc: Global,
+        birth: Birth,
+        ordinary: &Bank,
+        loaned: &Bank,
+    ) -> Result<Object, Memory>
         requires users { (0 < birth.users) × (birth.users ≤ 64) }
         requires pagers { (0 < birth.pagers) × (birth.pagers ≤ 64) }
         requires kinds { (ordinary.now.kind ≡ OrdinaryKind) × (loaned.now.kind ≡ LoanedKind) }

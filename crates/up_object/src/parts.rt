@@ -144,7 +144,11 @@ impl Changing {
         ensures { self.new ≡ next self.old }
     {
         let old = self.marks.at(self.mark);
-        let cold = if always { old.key.cold } else { Some(self.log.count()) };
+        let cold = if always {
+            old.key.cold
+        } else {
+            Some(self.log.count())
+        };
         let key = Key { cold, ..old.key };
         self.marks.set(self.mark, Mark { always, key, ..old });
         self.mark += 1;
@@ -366,7 +370,14 @@ impl Changing {
 }
 
 /// Takes the room that a call may need: for its entry above those reserved for leaves, for changes of its pages, and for frames that come back.
-fn take_room(log: &mut Log, pages: &mut PageList, back: &mut Frames, leaves: u32, changes: u32, given: u32) -> Result<(), Memory>
+fn take_room(
+    log: &mut Log,
+    pages: &mut PageList,
+    back: &mut Frames,
+    leaves: u32,
+    changes: u32,
+    given: u32,
+) -> Result<(), Memory>
     requires few { leaves ≤ 128 }
     ensures entries { log.new.entries ≡ log.old.entries }
     ensures spare { log.old.spare ≤ log.new.spare }
@@ -418,7 +429,14 @@ pub fn open(
     let mut back = Frames::new(alloc);
     let reserved = leaves_left(&entry.call, leaves);
     let count = given.len();
-    match take_room(&mut log, &mut pages, &mut back, reserved, limit - first, count) {
+    match take_room(
+        &mut log,
+        &mut pages,
+        &mut back,
+        reserved,
+        limit - first,
+        count,
+    ) {
         Ok(()) => Ok(Changing {
             birth,
             banks,
@@ -460,7 +478,13 @@ pub fn open(
 }
 
 /// Makes a call that changes no part: only the journal grows. All frames that were given come back.
-pub fn note(object: Object, alloc: Global, entry: Entry, brings: FrameKind, given: Frames) -> Result<(Object, Frames), (Memory, Object, Frames)>
+pub fn note(
+    object: Object,
+    alloc: Global,
+    entry: Entry,
+    brings: FrameKind,
+    given: Frames,
+) -> Result<(Object, Frames), (Memory, Object, Frames)>
     requires own { AllAre (bank_of object.banks brings) given.items }
     requires pages { (p : ℕ) → concerns object.birth object.journal entry p ≡ false }
     requires asks { keeps_asks entry ≡ true }

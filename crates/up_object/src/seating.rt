@@ -77,7 +77,14 @@ fn seat_at(pages: &PageList, marks: &Marks, asking: &Asking, queues: &mut Queues
 }
 
 /// Gives the pages from one on, up to another, their places in the queues, by what is kept of them.
-pub(crate) fn settle(pages: &PageList, marks: &Marks, asking: &Asking, queues: &mut Queues, from: u32, to: u32)
+pub(crate) fn settle(
+    pages: &PageList,
+    marks: &Marks,
+    asking: &Asking,
+    queues: &mut Queues,
+    from: u32,
+    to: u32,
+)
     requires order { from ≤ to }
     requires bound { to ≤ size_of pages.now }
     requires wide { size_of pages.now ≤ queues.old.room }

@@ -34,8 +34,8 @@ returns-clause-frames c = λ kind.
     let fixed = subst (λ (v : Change). keeps_size v.entry ≡ true) (sym c.self.view_is) c.requires.size in
     let h = c.self.inside.entry ∷ c.self.inside.log.entries in
     let now : held_by kind c.self.inside.pages ≡ held c.self.inside.birth h kind =
-        held_is c.self.inside.banks c.self.inside.pages c.self.inside.marks c.self.inside.birth h kind (pages_end _ _ _ _ _ _ _ s.part keeps)
-        (s.sized ∙ sym (kept_size c.self.inside.birth c.self.inside.entry c.self.inside.log.entries fixed)) in
+    held_is c.self.inside.banks c.self.inside.pages c.self.inside.marks c.self.inside.birth h kind (pages_end _ _ _ _ _ _ _ s.part keeps)
+    (s.sized ∙ sym (kept_size c.self.inside.birth c.self.inside.entry c.self.inside.log.entries fixed)) in
     frames_end kind c.self.inside.given.items c.self.inside.back.items c.hand_over.new.back.items c.self.inside.pages _ c.args.self.frames (ap (λ (v : Change). v.frames) c.self.view_is) (c.hand_over.ensures.kinds kind)
     (subst (λ (v : Change). held_by kind c.self.inside.pages ≡ held v.birth (v.entry ∷ v.journal) kind) c.self.view_is now)
 
