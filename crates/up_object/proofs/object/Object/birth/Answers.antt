@@ -1,0 +1,14 @@
+use Rattle.std.proofs.Common.{◌≡◌, ◌≤◌, ◌+◌, refl, ap, ◌∙◌, arith, length}
+use Rattle.up_bank.specs.Standing.{BankId}
+use Rattle.up_model.specs.Written.{Written}
+use Rattle.up_object.specs.Stands.{Asked}
+use Rattle.up_object.proofs.Ending.{first_stands}
+use Rattle.up_object.proofs.object.Object.birth.Goals as goal
+
+pub invariant_of-result : goal.invariant_of-result
+invariant_of-result c =
+    let few : c.args.birth.users + c.args.birth.pagers ≤ 128 = omega (arith, c.requires.users.1, c.requires.pagers.1) in
+    let wide : c.args.birth.pages ≤ c.reserve.new.self.room = omega (arith, c.in_ok-reserve.ensures.enough) in
+    first_stands _ _ _ _ _ _ _ _ _ _ (ap (λ (b : BankId). b.kind) c.of.ensures ∙ c.requires.kinds.0, ap (λ (b : BankId). b.kind) c.of-2.ensures ∙ c.requires.kinds.1)
+    (c.room.ensures.entries ∙ ap (λ (w : Written). w.entries) c.new-log.ensures) c.in_ok-pages.ensures.size c.in_ok-pages.ensures.pages c.in_ok-marks.ensures.size c.in_ok-marks.ensures.none
+    (c.reserve.ensures.items ∙ c.new-queues.ensures) wide (ap (λ (a : Asked). a.marks) c.new-3.ensures) refl refl few c.in_ok-room.ensures.enough

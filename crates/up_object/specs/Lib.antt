@@ -1,0 +1,6 @@
+pub mod Parts
+pub mod Stands
+pub mod Change
+pub mod Changing
+pub mod Whole
+pub mod Object

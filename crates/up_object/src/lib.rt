@@ -1,0 +1,19 @@
+//! One memory object, whole: its pages over frames of two banks, pins, hints, queues, asks, roles, and the journal that all of it
+//! stands for. Calls stand in crates above; they are written over `parts::Changing`, which changes one part at a time.
+#![tactic(auto)]
+
+mod asking;
+mod banks;
+mod closing;
+mod marks;
+mod moves;
+mod object;
+pub mod parts;
+mod seating;
+mod tally;
+
+pub use asking::AskMark;
+pub use banks::Banks;
+pub use marks::{Key, Mark};
+pub use object::Object;
+pub use tally::Tally;
