@@ -136,17 +136,17 @@ impl Asks {
         alloc: Global,
         who: u32,
         kind: AskKind,
-        range: &PageRange,
+        range: PageRange,
         piece: Waiter,
     ) -> Result<(u64, u32), (Memory, Waiter)>
         ensures ticket { IfOk result (λ sent. sent.0 ≡ length self.old.tickets) }
-        ensures packets { IfOk result (λ sent. sent.1 ≡ length (fresh self.old kind range.now.first range.now.count)) }
+        ensures packets { IfOk result (λ sent. sent.1 ≡ length (fresh self.old kind range.first range.count)) }
         ensures pages { OnOk result ((each : AskKindValue) (page : ℕ) → asked_in self.new each page
-            ≡ (asking.same_kind kind each && within range.now.first range.now.count page || asked_in self.old each page)) }
+            ≡ (asking.same_kind kind each && within range.first range.count page || asked_in self.old each page)) }
         ensures rest { OnOk result (self.new ≡ record self.old {
           pages = self.new.pages;
-          packets = self.old.packets ++ packets_for kind (fresh self.old kind range.now.first range.now.count);
-          tickets = self.old.tickets ++ new_ticket who kind range.now.first range.now.count ∷ [];
+          packets = self.old.packets ++ packets_for kind (fresh self.old kind range.first range.count);
+          tickets = self.old.tickets ++ new_ticket who kind range.first range.count ∷ [];
           waiters = self.old.waiters ++ Some piece ∷ [];
           packet_room = self.new.packet_room;
           ticket_room = self.new.ticket_room;
@@ -154,10 +154,10 @@ impl Asks {
         ensures err { OnErr result (SameAsks self.old self.new) }
         ensures back { IfErr result (λ failed. failed.1 ≡ piece) }
     {
-        match self.prepare(alloc, kind, range) {
+        match self.prepare(alloc, kind, &range) {
             Ok(parts) => {
                 let sent = parts.len() as u32;
-                let ticket = self.park(who, kind, range, &parts, piece);
+                let ticket = self.park(who, kind, &range, &parts, piece);
                 Ok((ticket, sent))
             }
             Err(memory) => Err((memory, piece)),

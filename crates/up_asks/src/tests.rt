@@ -1,3 +1,5 @@
+ghost use Rattle.std.specs.Prelude.{◌≡◌, ◌+◌, ◌<◌, ◌^◌};
+
 use crate::{Asks, Event, Waiter};
 use std::test::Fail;
 use up_num::{AskKind, Bytes, Code, Memory, Outcome, Packet, PageNo, PageRange};
@@ -23,9 +25,9 @@ fn pages(first: u32, count: u32) -> PageRange
 /// Three who wait: for pages 2 to 5 and 0 to 7 to be read, and to make page 4 dirty.
 fn three_asks(rt: &HostRuntime) -> Result<Asks, Fail> {
     let mut asks = Asks::new(rt.alloc())?;
-    park(rt, &mut asks, 1, AskKind::Read, &pages(2, 4))?;
-    park(rt, &mut asks, 2, AskKind::Read, &pages(0, 8))?;
-    park(rt, &mut asks, 3, AskKind::Dirty, &pages(4, 1))?;
+    park(rt, &mut asks, 1, AskKind::Read, pages(2, 4))?;
+    park(rt, &mut asks, 2, AskKind::Read, pages(0, 8))?;
+    park(rt, &mut asks, 3, AskKind::Dirty, pages(4, 1))?;
     Ok(asks)
 }
 
@@ -34,7 +36,7 @@ fn park(
     asks: &mut Asks,
     who: u32,
     kind: AskKind,
-    range: &PageRange,
+    range: PageRange,
 ) -> Result<(u64, u32), Memory> {
     let piece = reading(rt, range.first);
     asks.ask(rt.alloc(), who, kind, range, piece)
@@ -45,7 +47,7 @@ fn park(
 fn a_later_ask_sends_what_is_not_asked_yet(rt: HostRuntime) -> Result<(), Fail> {
     let mut asks = three_asks(&rt)?;
     assert_eq!(rt;
-        park(&rt, &mut asks, 1, AskKind::Read, &pages(7, 3))?,
+        park(&rt, &mut asks, 1, AskKind::Read, pages(7, 3))?,
         (3, 1)
     );
     assert_eq!(rt; asks.untaken(), 5);
