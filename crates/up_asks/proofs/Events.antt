@@ -1,6 +1,6 @@
 -- Events one after another, and what they make of tickets.
-use Rattle.std.proofs.Common.{◌≡◌, ℕ, ◌+◌, ◌-◌, ◌<◌, ◌≤◌, ◌&&◌, ◌++◌, not, cond, Bool, true, false, Option, Some, None, List, [], ◌∷◌, map, take, drop, length, get_or, set, slice_get, slice_set, zero, suc, refl, sym, ap, ◌∙◌, subst, arith}
-use Rattle.std.proofs.lemmas.List.{take_more, drop_more, append_assoc, set_at, take_more_set, drop-set-lt, length_push}
+use Rattle.std.proofs.Common.{◌≡◌, ℕ, ◌+◌, ◌&&◌, ◌++◌, not, cond, Bool, true, false, Some, List, [], ◌∷◌, map, take, length, slice_get, zero, suc, refl, sym, ap, ◌∙◌, subst, arith}
+use Rattle.std.proofs.lemmas.List.{take_more, append_assoc, set_at, length_push}
 use Rattle.std.proofs.lemmas.Option.{slice_get_within, get_or_from_slice_get, none-some, same_Some}
 use Rattle.std.proofs.lemmas.Bool.{true≢false}
 use Rattle.up_num.specs.Asks.{is_waiting, then_outcome}

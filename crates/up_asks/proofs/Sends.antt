@@ -1,5 +1,5 @@
 -- The runs of a range are ranges, no more than its pages, and each makes a packet.
-use Rattle.std.proofs.Common.{◌≡◌, ℕ, ◌+◌, ◌-◌, ◌^◌, ◌<◌, ◌≤◌, ◌++◌, Bool, true, false, cond, Some, List, [], ◌∷◌, map, take, length, slice_get, zero, suc, refl, sym, ap, ◌∙◌, arith}
+use Rattle.std.proofs.Common.{◌≡◌, ℕ, ◌+◌, ◌^◌, ◌<◌, ◌≤◌, ◌++◌, Bool, true, false, cond, Some, List, [], ◌∷◌, take, length, slice_get, zero, suc, sym, ap, ◌∙◌, arith}
 use Rattle.std.proofs.lemmas.List.{map_push, take_more, length-append}
 use Rattle.std.proofs.lemmas.Option.{slice_get_within, get_or_from_slice_get, none-some, same_Some}
 use Rattle.std.proofs.Common.{subst}

@@ -1,5 +1,5 @@
 -- What contracts see of asks, packets and tickets, and what each change makes of them.
-use Rattle.std.specs.Prelude.{◌≡◌, ℕ, ◌+◌, ◌&&◌, not, Bool, true, false, cond, Option, Some, None, is_some, List, [], ◌∷◌, map, slice_get}
+use Rattle.std.specs.Prelude.{◌≡◌, ℕ, ◌+◌, ◌≤◌, ◌&&◌, not, Bool, cond, Option, Some, None, List, [], ◌∷◌, map, slice_get}
 use Rattle.up_num.specs.Asks.{Ask, same_kind, is_waiting, then_outcome, packet_of}
 use Rattle.up_num.specs.Span.{covers}
 use Rattle.up_num.specs.declared.answers.AskKind.{AskKind}
@@ -102,3 +102,9 @@ pub record SameButTickets (old new : Asking) (tickets : List Ticket) : Type 0 wh
 pub record SameAsks (old new : Asking) : Type 0 where
   pub pages : (kind : AskKind) → (pages_of new.pages kind).runs ≡ (pages_of old.pages kind).runs
   pub rest : SameButTickets old new old.tickets
+
+-- no more room is gone than for so many packets, tickets and changes of each set
+pub record HasRoom (old new : Asking) (packets tickets changes : ℕ) : Type 0 where
+  pub for_packets : old.packet_room ≤ new.packet_room + packets
+  pub for_tickets : old.ticket_room ≤ new.ticket_room + tickets
+  pub for_changes : (kind : AskKind) → (pages_of old.pages kind).room ≤ (pages_of new.pages kind).room + changes

@@ -5,7 +5,7 @@ ghost use Rattle.up_num.specs.declared.answers.Outcome.TheVariants.{Detached};
 ghost use Rattle.up_num.specs.declared.answers.Packet.TheVariants.{Complete};
 ghost use Rattle.up_span.specs.Pages.{within};
 ghost use Rattle.up_span.specs.Sets.{holds};
-ghost use Rattle.up_asks.specs.Asking.{Asking, all_detached, pages_of, asked_in, fresh, packets_for, new_ticket, events_of, ticket_after, fixed_among, holder_in, SameAsks, SameButTickets};
+ghost use Rattle.up_asks.specs.Asking.{Asking, all_detached, pages_of, asked_in, fresh, packets_for, new_ticket, events_of, ticket_after, fixed_among, holder_in, HasRoom, SameAsks, SameButTickets};
 ghost use Rattle.up_asks.specs.Keeps.{AllFixed};
 ghost use Rattle.up_asks.specs.declared.ticket.Ticket.{Ticket as TicketValue};
 ghost use Rattle.up_asks.specs.declared.ticket.Waiter.{Waiter as WaiterValue};
@@ -84,6 +84,7 @@ impl Asks {
         ensures packets { OnOk result (packets ≤ self.new.packet_room) }
         ensures ticket { OnOk result (0 < self.new.ticket_room) }
         ensures changes { OnOk result ((kind : AskKindValue) → changes ≤ (pages_of self.new.pages kind).room) }
+        ensures more { HasRoom self.old self.new 0 0 0 }
     {
         self.pages.reserve(changes)?;
         self.reserve_packets(packets)?;
@@ -93,6 +94,7 @@ impl Asks {
     fn reserve_packets(&mut self, packets: u32) -> Result<(), Memory>
         ensures same { self.new ≡ record self.old { packet_room = self.new.packet_room } }
         ensures ok { OnOk result (packets ≤ self.new.packet_room) }
+        ensures more { self.old.packet_room ≤ self.new.packet_room }
     {
         let wanted = packets as usize;
         if wanted <= self.packet_room {
@@ -106,6 +108,7 @@ impl Asks {
     fn reserve_ticket(&mut self) -> Result<(), Memory>
         ensures same { self.new ≡ record self.old { ticket_room = self.new.ticket_room } }
         ensures ok { OnOk result (0 < self.new.ticket_room) }
+        ensures more { self.old.ticket_room ≤ self.new.ticket_room }
     {
         if self.ticket_room > 0 {
             return Ok(());
@@ -151,6 +154,7 @@ impl Asks {
           packet_room = self.new.packet_room;
           ticket_room = self.new.ticket_room;
         }) }
+        ensures room { HasRoom self.old self.new (length (fresh self.old kind range.first range.count)) 1 1 }
         ensures err { OnErr result (SameAsks self.old self.new) }
         ensures back { IfErr result (λ failed. failed.1 ≡ piece) }
     {
@@ -172,6 +176,7 @@ impl Asks {
         ensures packets { IfOk result (λ parts. length parts ≤ self.new.packet_room) }
         ensures ticket { OnOk result (0 < self.new.ticket_room) }
         ensures change { OnOk result ((each : AskKindValue) → 0 < (pages_of self.new.pages each).room) }
+        ensures more { HasRoom self.old self.new 0 0 0 }
     {
         let parts = self.fresh(alloc, kind, range)?;
         self.reserve(parts.len() as u32, 1)?;
@@ -262,6 +267,7 @@ impl Asks {
         requires room { (kind : AskKindValue) → length events.now ≤ (pages_of self.old.pages kind).room }
         ensures pages { (kind : AskKindValue) (page : ℕ) → asked_in self.new kind page ≡ (asked_in self.old kind page && asking.is_waiting (events_of events.now kind page)) }
         ensures tickets { self.new ≡ record self.old { pages = self.new.pages; tickets = map (ticket_after (events_of events.now)) self.old.tickets } }
+        ensures room { HasRoom self.old self.new 0 0 (length events.now) }
     {
         self.pages.take_all_out(events);
         happen(&mut self.tickets, &mut self.waiting, events);
@@ -273,6 +279,7 @@ impl Asks {
         ensures pages { OnOk result ((kind : AskKindValue) (page : ℕ) → asked_in self.new kind page ≡ (asked_in self.old kind page && asking.is_waiting (events_of events.now kind page))) }
         ensures tickets { OnOk result (SameButTickets self.old self.new (map (ticket_after (events_of events.now)) self.old.tickets)) }
         ensures woken { IfOk result (λ woken. woken ≡ fixed_among (events_of events.now) self.old.tickets 0) }
+        ensures room { HasRoom self.old self.new 0 0 (length events.now) }
         ensures err { OnErr result (SameAsks self.old self.new) }
     {
         let woken = self.waking(alloc, events)?;

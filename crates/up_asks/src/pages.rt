@@ -110,6 +110,7 @@ impl Pages {
         requires room { (each : AskKindValue) → length events.now ≤ (pages_of self.old each).room }
         ensures pages { (each : AskKindValue) (page : ℕ) → holds (pages_of self.new each).runs page
             ≡ (holds (pages_of self.old each).runs page && asks.is_waiting (events_of events.now each page)) }
+        ensures room { (each : AskKindValue) → (pages_of self.old each).room ≤ (pages_of self.new each).room + length events.now }
     {
         for place in 0..events.len() {
             self.take_out(event_at(events, place));

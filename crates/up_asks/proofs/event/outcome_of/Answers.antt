@@ -1,4 +1,4 @@
-use Rattle.std.proofs.Common.{◌≡◌, ◌∙◌, take, ap, sym}
+use Rattle.std.proofs.Common.{◌∙◌, take, ap, sym}
 use Rattle.up_num.specs.Asks.{then_outcome}
 use Rattle.up_asks.specs.Asking.{events_of}
 use Rattle.up_asks.proofs.Events.{events_more}

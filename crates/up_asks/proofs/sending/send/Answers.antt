@@ -1,4 +1,4 @@
-use Rattle.std.proofs.Common.{◌≡◌, ◌∙◌, ◌++◌, ◌∷◌, [], ap, take, sym, arith}
+use Rattle.std.proofs.Common.{◌∙◌, ◌++◌, ◌∷◌, [], ap, take, sym, arith}
 use Rattle.std.proofs.lemmas.List.{append_assoc}
 use Rattle.up_num.specs.Asks.{packet_of}
 use Rattle.up_num.specs.declared.answers.Packet.{Packet}

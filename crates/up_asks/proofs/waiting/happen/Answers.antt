@@ -1,4 +1,4 @@
-use Rattle.std.proofs.Common.{◌≡◌, ◌∙◌, ap, sym}
+use Rattle.std.proofs.Common.{◌∙◌, ap, sym}
 use Rattle.up_asks.specs.Asking.{events_of}
 use Rattle.up_asks.specs.Keeps.{still_waiting, waiting_among}
 use Rattle.up_asks.proofs.Events.{settled_all, still_all}

@@ -1,4 +1,4 @@
-use Rattle.std.proofs.Common.{◌≡◌, ◌∙◌, length, ap, sym, arith, rules}
+use Rattle.std.proofs.Common.{◌≡◌, ◌∙◌, length, ap, sym, rules}
 use Rattle.std.specs.Prelude.{vec_len}
 use Rattle.up_asks.specs.Asking.{Asking, all_detached, fixed_among}
 use Rattle.up_asks.proofs.Events.{detached_all}

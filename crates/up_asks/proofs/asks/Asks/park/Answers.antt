@@ -1,6 +1,4 @@
-use Rattle.std.proofs.Common.{◌≡◌, ◌∙◌, ◌+◌, ◌<◌, ◌≤◌, ◌^◌, not, ◌++◌, ◌∷◌, [], length, refl, ap, sym, subst, arith, rules}
-use Rattle.std.specs.Prelude.{vec_len}
-use Rattle.up_span.specs.Sets.{holds}
+use Rattle.std.proofs.Common.{◌≡◌, ◌∙◌, ◌+◌, ◌<◌, ◌≤◌, not, ◌++◌, ◌∷◌, [], length, refl, ap, sym, subst, arith, rules}
 use Rattle.up_asks.specs.Asking.{Asking, pages_of, asked_in}
 use Rattle.up_asks.specs.Keeps.{waiting_among}
 use Rattle.up_asks.proofs.Events.{waiting_push}

@@ -1,4 +1,4 @@
-use Rattle.std.proofs.Common.{ℕ, ◌<◌, sym, subst}
+use Rattle.std.proofs.Common.{◌<◌, sym, subst}
 use Rattle.up_num.specs.declared.answers.AskKind.TheVariants.{Read, Dirty}
 use Rattle.up_asks.specs.Asking.{AskedPages}
 use Rattle.up_asks.proofs.pages.Pages.add.Goals as goal

@@ -1,4 +1,4 @@
-use Rattle.std.proofs.Common.{◌≡◌, ◌∙◌, ◌&&◌, ◌+◌, ◌≤◌, Bool, true, false, take, refl, ap, sym, arith}
+use Rattle.std.proofs.Common.{◌≡◌, ◌∙◌, ◌&&◌, Bool, true, false, take, refl, ap, sym, arith}
 use Rattle.up_num.specs.Asks.{is_waiting}
 use Rattle.up_span.specs.Sets.{holds}
 use Rattle.up_asks.specs.Asking.{pages_of, event_of, events_of}
@@ -21,3 +21,6 @@ loop-place-preserved c = record {
       ∙ ap (λ o. holds (pages_of c.args.self.now k).runs p && is_waiting o) (sym (events_more c.args.events.now c.loop-place.place c.event_at.result.now k p c.event_at.ensures));
   room = λ k. let one = c.take_out.ensures.room k in let all = c.loop-place.invariant.room k in omega arith;
 }
+
+pub take_out-requires-clause-room : goal.take_out-requires-clause-room
+take_out-requires-clause-room c = λ each. let room = c.requires.room each in let left = c.loop-place.invariant.room each in omega arith
