@@ -177,7 +177,7 @@ pub begins : (banks : BankPair) (pages pages' : PageMap) (marks : List Mark) (qu
     StandsFor banks pages marks queue asking tally newest leaves spare birth h → h' ≡ h → ((p : ℕ) → page_at pages' p ≡ page_at pages p) → size_of pages' ≡ size_of pages → first ≤ limit → limit ≤ size birth h →
     AllAre (bank_of banks brings) given.items → back.items ≡ [] → length back.items + (length given.items + (limit - first)) ≤ back.room → limit - first ≤ pages'.spare → leaves_after e.call leaves < spare' →
     ChangeStandsFor banks pages' marks brings given back (record { queue = queue; asked = asking; tally = tally; newest = newest; leaves = leaves; spare = spare' }) birth e h'
-    (record { first = first; mark = first; limit = limit; asks = false; tally = false })
+    (record { first = first; mark = first; limit = limit; asks = false; spent = false; tally = false })
 begins banks pages pages' marks queue asking tally newest leaves spare spare' birth h h' e brings given back first limit s same puts sized order fits own none room ready enough = rw same (record {
   legal = s.legal;
   kinds = s.kinds;

@@ -17,6 +17,7 @@ use Rattle.up_model.specs.declared.entry.Entry.{Entry}
 use Rattle.up_object.specs.declared.marks.Mark.{Mark}
 use Rattle.up_object.specs.Parts.{BankPair, bank_of, PageStands, mark_at}
 use Rattle.up_object.specs.Whole.{Whole}
+use Rattle.up_object.specs.Asks.{AskRoom}
 use Rattle.up_object.specs.Stands.{Asked, AsksStand, Tally, TallyStands, seat, reserved, leaves_after}
 
 -- how far a call has come: its pages are those from `first` up to `limit`, and those below `mark` are done
@@ -25,6 +26,7 @@ pub record Done : Type 0 where
   pub mark : ℕ
   pub limit : ℕ
   pub asks : Bool
+  pub spent : Bool
   pub tally : Bool
 
 -- how many frames there are of each kind
@@ -54,6 +56,7 @@ pub record Change : Type 0 where
   pub pages : ℕ
   pub given : ℕ
   pub frames : Counts
+  pub room : AskRoom
 
 -- the page is one of those that are done
 abbrev pub is_done : Done → ℕ → Bool
@@ -135,15 +138,16 @@ pub record ChangeStandsFor (banks : BankPair) (pages : PageMap) (marks : List Ma
   pub others : RestStands rest (size_of pages) birth e h done
 
 -- an object at the beginning of a call, with no page done
-abbrev pub opened : Whole → Entry → FrameKind → Stock → ℕ → ℕ → Counts → Change
-opened whole e brings given first limit frames = record {
+abbrev pub opened : Whole → Entry → FrameKind → Stock → ℕ → ℕ → Counts → AskRoom → Change
+opened whole e brings given first limit frames room = record {
   birth = whole.birth;
   journal = whole.journal;
   entry = e;
   banks = whole.banks;
   brings = brings;
-  done = record { first = first; mark = first; limit = limit; asks = false; tally = false };
+  done = record { first = first; mark = first; limit = limit; asks = false; spent = false; tally = false };
   pages = size whole.birth whole.journal;
   given = length given.items;
   frames = frames;
+  room = room;
 }

@@ -1,5 +1,6 @@
 pub mod Parts
 pub mod Stands
+pub mod Asks
 pub mod Change
 pub mod Changing
 pub mod Whole

@@ -2,7 +2,9 @@
 //! stands for. Calls stand in crates above; they are written over `parts::Changing`, which changes one part at a time.
 #![tactic(auto)]
 
+mod answering;
 mod asking;
+mod asks;
 mod banks;
 mod closing;
 mod marks;

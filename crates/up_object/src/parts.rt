@@ -9,8 +9,9 @@ ghost use Rattle.up_object.specs.Whole.{held, with_entry};
 ghost use Rattle.up_pages.specs.Frames.{count_kind};
 ghost use Rattle.up_pages.specs.Pages.{page_at, size_of};
 ghost use Rattle.up_model.specs.Size.{size};
-ghost use Rattle.up_model.specs.Concerns.{concerns, keeps_asks, keeps_roles, keeps_modified, keeps_size};
+ghost use Rattle.up_model.specs.Concerns.{concerns, keeps_asks, keeps_spent, keeps_roles, keeps_modified, keeps_size};
 
+pub use crate::answering::open_asking;
 use crate::asking::Asking;
 use crate::banks::Banks;
 use crate::closing::{hand_over, leaves_left};
@@ -48,6 +49,7 @@ pub struct Changing {
     pub(crate) mark: u32,
     pub(crate) limit: u32,
     pub(crate) asks_done: bool,
+    pub(crate) spent_done: bool,
     pub(crate) tally_done: bool,
 }
 
@@ -66,10 +68,11 @@ impl Model for Changing {
       entry = o.entry;
       banks = o.banks;
       brings = o.brings;
-      done = record { first = o.first; mark = o.mark; limit = o.limit; asks = o.asks_done; tally = o.tally_done };
+      done = record { first = o.first; mark = o.mark; limit = o.limit; asks = o.asks_done; spent = o.spent_done; tally = o.tally_done };
       pages = size_of o.pages;
       given = length o.given.items;
       frames = counts_of o.given.items o.back.items o.pages;
+      room = record { tickets = 0; packets = 0; changes = 0 };
     } };
 
     ghost invariant = { ChangeStands };
@@ -320,6 +323,7 @@ impl Changing {
         requires pages { (p : ℕ) → is_done self.done p ≡ false → concerns self.birth self.journal self.entry p ≡ false }
         requires places { (p : ℕ) → (nat_le from p && nat_lt p to) ≡ false → Rests self.birth self.entry self.journal self.done p }
         requires asks { self.done.asks ≡ false → keeps_asks self.entry ≡ true }
+        requires spent { self.done.spent ≡ false → keeps_spent self.entry ≡ true }
         requires tally { self.done.tally ≡ false → (keeps_roles self.entry && keeps_modified self.entry) ≡ true }
         requires size { keeps_size self.entry ≡ true }
         requires due { IsDue self.birth self.entry self.journal }
@@ -346,6 +350,7 @@ impl Changing {
             mark: _,
             limit: _,
             asks_done: _,
+            spent_done: _,
             tally_done: _,
         } = self;
         settle(&pages, &marks, &asking, &mut queues, from, to);
@@ -409,7 +414,7 @@ pub fn open(
     requires order { first ≤ limit }
     requires fits { limit ≤ size object.birth object.journal }
     requires own { AllAre (bank_of object.banks brings) given.items }
-    ensures ok { IfOk result (λ change. change ≡ opened object entry brings given first limit change.frames) }
+    ensures ok { IfOk result (λ change. change ≡ opened object entry brings given first limit change.frames change.room) }
     ensures frames { IfOk result (λ change. (kind : FrameKindValue) → of_kind kind change.frames ≡ count_kind kind given.items + held object.birth object.journal kind) }
     ensures same { IfErr result (λ failed. failed.1 ≡ object) }
     ensures back { IfErr result (λ failed. failed.2 ≡ given) }
@@ -456,6 +461,7 @@ pub fn open(
             mark: first,
             limit,
             asks_done: false,
+            spent_done: false,
             tally_done: false,
         }),
         Err(memory) => {
@@ -488,6 +494,7 @@ pub fn note(
     requires own { AllAre (bank_of object.banks brings) given.items }
     requires pages { (p : ℕ) → concerns object.birth object.journal entry p ≡ false }
     requires asks { keeps_asks entry ≡ true }
+    requires spent { keeps_spent entry ≡ true }
     requires tally { (keeps_roles entry && keeps_modified entry) ≡ true }
     requires size { keeps_size entry ≡ true }
     requires due { IsDue object.birth entry object.journal }
