@@ -235,6 +235,16 @@ impl Asks {
         (self.packets.len() - self.taken) as u64
     }
 
+    /// The next packet, which stays.
+    pub fn next_packet(&self) -> Option<Packet>
+        ensures { result ≡ slice_get self.now.packets self.now.taken }
+    {
+        if self.taken == self.packets.len() {
+            return None;
+        }
+        Some(self.packets[self.taken])
+    }
+
     /// Takes the next packet.
     pub fn packet(&mut self) -> Option<Packet>
         ensures next { result ≡ slice_get self.old.packets self.old.taken }
@@ -315,6 +325,20 @@ impl Asks {
         }
         detach_all(&mut self.tickets, &mut self.waiting);
         woken
+    }
+
+    /// How many tickets wait.
+    pub fn count_waiting(&self) -> u64
+        ensures { result ≡ length (fixed_among all_detached self.now.tickets 0) }
+    {
+        self.waiting.len() as u64
+    }
+
+    /// How many tickets were given, which is the number of the next one.
+    pub fn count(&self) -> u64
+        ensures { result ≡ length self.now.tickets }
+    {
+        self.tickets.len() as u64
     }
 
     /// Who holds a ticket, if it was given and isn't spent.

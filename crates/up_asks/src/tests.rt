@@ -51,6 +51,7 @@ fn a_later_ask_sends_what_is_not_asked_yet(rt: HostRuntime) -> Result<(), Fail> 
         (3, 1)
     );
     assert_eq!(rt; asks.untaken(), 5);
+    assert_eq!(rt; asks.next_packet(), Some(Packet::Read(pages(2, 4))));
     let sent = [
         Packet::Read(pages(2, 4)),
         Packet::Read(pages(0, 2)),
@@ -61,6 +62,7 @@ fn a_later_ask_sends_what_is_not_asked_yet(rt: HostRuntime) -> Result<(), Fail> 
     for packet in sent {
         assert_eq!(rt; asks.packet(), Some(packet));
     }
+    assert_eq!(rt; asks.next_packet(), None);
     assert_eq!(rt; asks.packet(), None);
     assert!(rt; asks.asked(AskKind::Read, PageNo(7)));
     assert!(rt; !asks.asked(AskKind::Dirty, PageNo(5)));
@@ -98,8 +100,10 @@ fn events_fix_those_who_wait_for_their_pages(rt: HostRuntime) -> Result<(), Fail
 #[test]
 fn closing_detaches_who_still_waits(rt: HostRuntime) -> Result<(), Fail> {
     let mut asks = three_asks(&rt)?;
+    assert_eq!(rt; asks.count_waiting(), 3);
     assert_eq!(rt; asks.close(), 3);
     assert_eq!(rt; asks.close(), 0);
+    assert_eq!(rt; asks.count(), 3);
     assert_eq!(rt; asks.untaken(), 5);
     assert!(rt; !asks.asked(AskKind::Read, PageNo(2)));
     Ok(())

@@ -19,29 +19,27 @@ use Rattle.up_model.specs.Asks.{asked}
 use Rattle.up_model.specs.Use.{newest_epoch}
 use Rattle.up_model.specs.Legal.{Legal}
 use Rattle.up_model.specs.Looks.{look_of}
-use Rattle.up_model.specs.Concerns.{concerns, keeps_asks, keeps_roles, keeps_modified, keeps_size}
+use Rattle.up_model.specs.Concerns.{concerns, keeps_asks, keeps_spent, keeps_roles, keeps_modified, keeps_size}
 use Rattle.up_model.specs.Changes.{IsDue}
 use Rattle.up_model.specs.declared.entry.Birth.{Birth}
 use Rattle.up_model.specs.declared.entry.Call.{Call}
 use Rattle.up_model.specs.declared.entry.Entry.{Entry}
 use Rattle.up_model.proofs.Quiet.{untouched}
-use Rattle.up_model.proofs.Kept.{kept_asks, kept_roles, kept_modified, kept_size}
+use Rattle.up_model.proofs.Kept.{kept_roles, kept_modified, kept_size}
 use Rattle.up_object.specs.declared.marks.Mark.{Mark}
 use Rattle.up_object.specs.Parts.{BankPair, bank_of, is_loan, PageStands, shown, no_mark, mark_at}
-use Rattle.up_object.specs.declared.asking.AskMark.{AskMark}
+use Rattle.up_asks.specs.Asking.{Asking, SameAsks}
 use Rattle.up_queues.specs.declared.queued.Queued.{Queued}
 use Rattle.up_model.proofs.Equations.{value_none}
-use Rattle.up_object.specs.Stands.{Asked, AsksStand, Tally, TallyStands, asked_in, seat, item_of, reserved, leaves_after, is_leave, leave_calls, StandsFor}
+use Rattle.up_object.specs.Stands.{Tally, TallyStands, seat, item_of, reserved, leaves_after, is_leave, leave_calls, StandsFor}
+use Rattle.up_object.specs.Asks.{AsksStand}
 use Rattle.up_object.specs.Change.{Done, Rest, RestStands, Counts, of_kind, counts_of, frames_in_all, is_done, up_to, PagesStand, FramesStand, AllAre, AllOwn, Rests, ChangeStandsFor}
 use Rattle.up_object.specs.Whole.{held, is_framed_by, same_loan}
 use Rattle.up_object.proofs.Turning.{keeps_page, kind_given}
+use Rattle.up_object.proofs.Waits.{asks_end, roomy_asks}
 use Rattle.up_object.proofs.Seats.{seat_is, seat_stays, seat_beyond}
 
 -- What wasn't changed is as before.
-
-pub asks_end : (asking : Asked) (birth : Birth) (e : Entry) (h : List Entry) (done : Bool) → AsksStand asking birth (up_to done e h) → (done ≡ false → keeps_asks e ≡ true) → AsksStand asking birth (e ∷ h)
-asks_end asking birth e h true s keeps = s
-asks_end asking birth e h false s keeps = let same = kept_asks birth e h (keeps refl) in record { pages = λ kind p. s.pages kind p ∙ sym (same.pages kind p) }
 
 pub tally_end : (tally : Tally) (birth : Birth) (e : Entry) (h : List Entry) (done : Bool) → TallyStands tally birth (up_to done e h) → (done ≡ false → (keeps_roles e && keeps_modified e) ≡ true) → TallyStands tally birth (e ∷ h)
 tally_end tally birth e h true s keeps = s
@@ -70,9 +68,9 @@ leaves_end call a n = elim (is_leave call) as (λ b. cond b (a - n - 1) (a - n) 
 ]
 
 seat_end : (banks : BankPair) (pages : PageMap) (marks : List Mark) (rest : Rest) (birth : Birth) (e : Entry) (h : List Entry) (done : Done) (p : ℕ) (within : Bool) →
-    ((q : ℕ) → PageStands banks (page_at pages q) (mark_at marks q) birth (e ∷ h) q) → AsksStand rest.asked birth (e ∷ h) → find_page rest.queue.items p ≡ seat birth h p →
+    ((q : ℕ) → PageStands banks (page_at pages q) (mark_at marks q) birth (e ∷ h) q) → AsksStand rest.asks birth (e ∷ h) → find_page rest.queue.items p ≡ seat birth h p →
     ((q : ℕ) → is_done done q ≡ false → concerns birth h e q ≡ false) → (within ≡ false → Rests birth e h done p) →
-    cond within (item_of pages marks rest.asked.marks p) (find_page rest.queue.items p) ≡ seat birth (e ∷ h) p
+    cond within (item_of pages marks rest.asks p) (find_page rest.queue.items p) ≡ seat birth (e ∷ h) p
 seat_end banks pages marks rest birth e h done p true stand asks was keeps places =
     seat_is banks (page_at pages p) (mark_at marks p) _ birth (e ∷ h) p (stand p) (asks.pages DirtyAsk p)
 seat_end banks pages marks rest birth e h done p false stand asks was keeps places =
@@ -89,13 +87,13 @@ less_few call left had is few = subst (λ (n : ℕ). n ≤ 128) (sym is) (fewer 
 pub closed : (banks : BankPair) (pages : PageMap) (marks : List Mark) (brings : FrameKind) (given back : Stock) (rest : Rest) (birth : Birth) (e : Entry) (h h' : List Entry) (done : Done) (from to : ℕ)
     (queue' : Queue) (newest' leaves' spare' : ℕ) → ChangeStandsFor banks pages marks brings given back rest birth e h done →
     ((p : ℕ) → is_done done p ≡ false → concerns birth h e p ≡ false) → ((p : ℕ) → (nat_le from p && nat_lt p to) ≡ false → Rests birth e h done p) →
-    (done.asks ≡ false → keeps_asks e ≡ true) → (done.tally ≡ false → (keeps_roles e && keeps_modified e) ≡ true) → keeps_size e ≡ true → IsDue birth e h →
-    ((p : ℕ) → find_page queue'.items p ≡ cond (nat_le from p && nat_lt p to) (item_of pages marks rest.asked.marks p) (find_page rest.queue.items p)) → queue'.room ≡ rest.queue.room →
+    (done.asks ≡ false → keeps_asks e ≡ true) → (done.spent ≡ false → keeps_spent e ≡ true) → (done.tally ≡ false → (keeps_roles e && keeps_modified e) ≡ true) → keeps_size e ≡ true → IsDue birth e h →
+    ((p : ℕ) → find_page queue'.items p ≡ cond (nat_le from p && nat_lt p to) (item_of pages marks rest.asks p) (find_page rest.queue.items p)) → queue'.room ≡ rest.queue.room →
     newest' ≡ max e.epoch rest.newest → leaves' ≡ leaves_after e.call rest.leaves → spare' ≡ rest.spare - 1 → h' ≡ e ∷ h →
-    StandsFor banks pages marks queue' rest.asked rest.tally newest' leaves' spare' birth h'
-closed banks pages marks brings given back rest birth e h h' done from to queue' newest' leaves' spare' s keeps places asks tally fixed due finds room newest leaves spare is =
+    StandsFor banks pages marks queue' rest.asks rest.tally newest' leaves' spare' birth h'
+closed banks pages marks brings given back rest birth e h h' done from to queue' newest' leaves' spare' s keeps places asks spends tally fixed due finds room newest leaves spare is =
     let stand = pages_end banks pages marks birth e h done s.part keeps in
-    let asking = asks_end rest.asked birth e h done.asks s.others.asks asks in
+    let asking = asks_end rest.asks birth e h done.asks done.spent s.others.asks asks spends in
     let enough = s.others.room in
     let few = s.others.few in
     rw is (record {
@@ -173,12 +171,12 @@ empty_list (x ∷ xs) n m is low = absurd (omega arith)
 undone : (first p : ℕ) → (nat_le first p && nat_lt p first) ≡ false
 undone first p = grind (arith, nat_tests)
 
-pub begins : (banks : BankPair) (pages pages' : PageMap) (marks : List Mark) (queue : Queue) (asking : Asked) (tally : Tally) (newest leaves spare spare' : ℕ) (birth : Birth) (h h' : List Entry) (e : Entry) (brings : FrameKind) (given back : Stock) (first limit : ℕ) →
-    StandsFor banks pages marks queue asking tally newest leaves spare birth h → h' ≡ h → ((p : ℕ) → page_at pages' p ≡ page_at pages p) → size_of pages' ≡ size_of pages → first ≤ limit → limit ≤ size birth h →
+pub begins : (banks : BankPair) (pages pages' : PageMap) (marks : List Mark) (queue : Queue) (asking asking' : Asking) (tally : Tally) (newest leaves spare spare' : ℕ) (birth : Birth) (h h' : List Entry) (e : Entry) (brings : FrameKind) (given back : Stock) (first limit : ℕ) →
+    StandsFor banks pages marks queue asking tally newest leaves spare birth h → h' ≡ h → ((p : ℕ) → page_at pages' p ≡ page_at pages p) → size_of pages' ≡ size_of pages → SameAsks asking asking' → first ≤ limit → limit ≤ size birth h →
     AllAre (bank_of banks brings) given.items → back.items ≡ [] → length back.items + (length given.items + (limit - first)) ≤ back.room → limit - first ≤ pages'.spare → leaves_after e.call leaves < spare' →
-    ChangeStandsFor banks pages' marks brings given back (record { queue = queue; asked = asking; tally = tally; newest = newest; leaves = leaves; spare = spare' }) birth e h'
+    ChangeStandsFor banks pages' marks brings given back (record { queue = queue; asks = asking'; tally = tally; newest = newest; leaves = leaves; spare = spare' }) birth e h'
     (record { first = first; mark = first; limit = limit; asks = false; spent = false; tally = false })
-begins banks pages pages' marks queue asking tally newest leaves spare spare' birth h h' e brings given back first limit s same puts sized order fits own none room ready enough = rw same (record {
+begins banks pages pages' marks queue asking asking' tally newest leaves spare spare' birth h h' e brings given back first limit s same puts sized roomy order fits own none room ready enough = rw same (record {
   legal = s.legal;
   kinds = s.kinds;
   sized = sized ∙ s.sized;
@@ -198,7 +196,7 @@ begins banks pages pages' marks queue asking tally newest leaves spare spare' bi
   others = record {
     queued = s.queued;
     wide = subst (λ (n : ℕ). n ≤ queue.room) (sym sized) s.wide;
-    asks = s.asks;
+    asks = roomy_asks asking asking' birth h h s.asks roomy;
     tallied = s.tallied;
     epoch = s.epoch;
     leaving = s.leaving;
@@ -220,6 +218,26 @@ frames_begin kind banks pages pages' marks given back birth h none stand sized p
     let now = held_is banks pages' marks birth h kind (λ p. rw (puts p) (stand p)) (same ∙ sized) in
     of_counts kind given back pages' ∙ add_none (count_kind kind given) (count_kind kind back) (held_by kind pages') (held birth h kind) (ap (λ (xs : List Frame). count_kind kind xs) none) now
 
+-- an object for whose call there was no room
+pub unopened : (banks : BankPair) (pages pages' : PageMap) (marks : List Mark) (queue : Queue) (asking asking' : Asking) (tally : Tally) (newest leaves spare spare' : ℕ) (birth : Birth) (h h' : List Entry) →
+    StandsFor banks pages marks queue asking tally newest leaves spare birth h → h' ≡ h → ((p : ℕ) → page_at pages' p ≡ page_at pages p) → size_of pages' ≡ size_of pages → SameAsks asking asking' → spare ≤ spare' →
+    StandsFor banks pages' marks queue asking' tally newest leaves spare' birth h'
+unopened banks pages pages' marks queue asking asking' tally newest leaves spare spare' birth h h' s same puts sized roomy more = rw same (record {
+  legal = s.legal;
+  kinds = s.kinds;
+  sized = sized ∙ s.sized;
+  each = λ p. rw (puts p) (s.each p);
+  marked = s.marked ∙ sym sized;
+  queued = s.queued;
+  wide = subst (λ (n : ℕ). n ≤ queue.room) (sym sized) s.wide;
+  asks = roomy_asks asking asking' birth h h s.asks roomy;
+  tallied = s.tallied;
+  epoch = s.epoch;
+  leaving = s.leaving;
+  few = s.few;
+  room = let room = s.room in omega arith;
+})
+
 -- A new object.
 
 first_page : (banks : BankPair) (page : Page) (mark : Mark) (birth : Birth) (p : ℕ) → page ≡ Absent → mark ≡ no_mark → PageStands banks page mark birth [] p
@@ -238,9 +256,9 @@ first_seat birth p = rw (value_none birth (4096 * p)) refl
 no_leaves : (n : ℕ) → n ≡ n - 0
 no_leaves n = omega arith
 
-pub first_stands : (banks : BankPair) (pages : PageMap) (marks : List Mark) (queue : Queue) (asking : Asked) (tally : Tally) (leaves spare : ℕ) (birth : Birth) (h : List Entry) →
+pub first_stands : (banks : BankPair) (pages : PageMap) (marks : List Mark) (queue : Queue) (asking : Asking) (tally : Tally) (leaves spare : ℕ) (birth : Birth) (h : List Entry) →
     (banks.ordinary.kind ≡ Ordinary) × (banks.loaned.kind ≡ Loaned) → h ≡ [] → size_of pages ≡ birth.pages → ((p : ℕ) → page_at pages p ≡ Absent) → length marks ≡ birth.pages → ((p : ℕ) → mark_at marks p ≡ no_mark) →
-    queue.items ≡ [] → birth.pages ≤ queue.room → asking.marks ≡ [] → tally ≡ record { users = birth.users; pagers = birth.pagers; cut = false; modified = false } → leaves ≡ birth.users + birth.pagers → leaves ≤ 128 → leaves ≤ spare →
+    queue.items ≡ [] → birth.pages ≤ queue.room → AsksStand asking birth [] → tally ≡ record { users = birth.users; pagers = birth.pagers; cut = false; modified = false } → leaves ≡ birth.users + birth.pagers → leaves ≤ 128 → leaves ≤ spare →
     StandsFor banks pages marks queue asking tally 0 leaves spare birth h
 first_stands banks pages marks queue asking tally leaves spare birth h kinds none sized gone marked bare empty wide unasked counted reserve few room = rw (none, counted) (record {
   legal = tt;
@@ -250,7 +268,7 @@ first_stands banks pages marks queue asking tally leaves spare birth h kinds non
   marked = marked ∙ sym sized;
   queued = λ p. ap (λ (xs : List Queued). find_page xs p) empty ∙ sym (first_seat birth p);
   wide = subst (λ (n : ℕ). n ≤ queue.room) (sym sized) wide;
-  asks = record { pages = λ kind p. ap (λ (xs : List AskMark). asked_in xs kind p) unasked };
+  asks = unasked;
   tallied = record { acting = refl; paging = refl; cut_off = refl; changed = refl };
   epoch = refl;
   leaving = reserve ∙ no_leaves (birth.users + birth.pagers);

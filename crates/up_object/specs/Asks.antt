@@ -37,6 +37,7 @@ pub record TicketsStand (tickets : List Ticket) (birth : Birth) (h : List Entry)
 
 -- the accesses are those that the journal h parked under the tickets that aren't spent after the journal `late`, and each spent one was given
 pub record WaitersStand (waiters : List (Option Waiter)) (h late : List Entry) : Type 0 where
+  pub places : length waiters ≡ next_ticket h
   pub accesses : (t : ℕ) → access_in (slice_get waiters t) ≡ cond (spent late t) None (parked h t)
   pub given : (t : ℕ) → next_ticket h ≤ t → spent late t ≡ false
 

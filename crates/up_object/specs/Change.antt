@@ -4,6 +4,7 @@ use Rattle.std.specs.Prelude.{◌≡◌, ℕ, ◌+◌, ◌-◌, ◌<◌, ◌≤�
 use Rattle.up_bank.specs.Standing.{BankId, Held as Frame}
 use Rattle.up_bank.specs.declared.kind.FrameKind.{FrameKind}
 use Rattle.up_bank.specs.declared.kind.FrameKind.TheVariants.{Ordinary, Loaned}
+use Rattle.up_asks.specs.Asking.{Asking}
 use Rattle.up_pages.specs.Frames.{Stock, count_kind}
 use Rattle.up_pages.specs.Pages.{PageMap, page_at, size_of, held_by}
 use Rattle.up_queues.specs.Queue.{Queue, find_page}
@@ -17,8 +18,8 @@ use Rattle.up_model.specs.declared.entry.Entry.{Entry}
 use Rattle.up_object.specs.declared.marks.Mark.{Mark}
 use Rattle.up_object.specs.Parts.{BankPair, bank_of, PageStands, mark_at}
 use Rattle.up_object.specs.Whole.{Whole}
-use Rattle.up_object.specs.Asks.{AskRoom}
-use Rattle.up_object.specs.Stands.{Asked, AsksStand, Tally, TallyStands, seat, reserved, leaves_after}
+use Rattle.up_object.specs.Asks.{AskRoom, AsksStandFor}
+use Rattle.up_object.specs.Stands.{Tally, TallyStands, seat, reserved, leaves_after}
 
 -- how far a call has come: its pages are those from `first` up to `limit`, and those below `mark` are done
 pub record Done : Type 0 where
@@ -111,7 +112,7 @@ pub record Rests (birth : Birth) (e : Entry) (h : List Entry) (done : Done) (p :
 -- what an object keeps beside its pages and their marks
 pub record Rest : Type 0 where
   pub queue : Queue
-  pub asked : Asked
+  pub asks : Asking
   pub tally : Tally
   pub newest : ℕ
   pub leaves : ℕ
@@ -121,7 +122,7 @@ pub record Rest : Type 0 where
 pub record RestStands (rest : Rest) (pages : ℕ) (birth : Birth) (e : Entry) (h : List Entry) (done : Done) : Type 0 where
   pub queued : (p : ℕ) → find_page rest.queue.items p ≡ seat birth h p
   pub wide : pages ≤ rest.queue.room
-  pub asks : AsksStand rest.asked birth (up_to done.asks e h)
+  pub asks : AsksStandFor rest.asks birth (up_to done.asks e h) (up_to done.spent e h)
   pub tallied : TallyStands rest.tally birth (up_to done.tally e h)
   pub epoch : newest_epoch h ≡ rest.newest
   pub leaving : rest.leaves ≡ reserved birth h

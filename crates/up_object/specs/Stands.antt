@@ -1,18 +1,17 @@
 -- When the parts of an object stand for its journal: asked pages, what is counted, and which pages the queues have.
 use Rattle.std.specs.Prelude.{◌≡◌, ℕ, ◌+◌, ◌-◌, ◌<◌, ◌≤◌, ◌==◌, ◌&&◌, not, Bool, true, false, cond, Option, Some, None, option_map, List, [], ◌∷◌, length, suc, nat_le, nat_lt}
-use Rattle.up_num.specs.Span.{Span, covers}
 use Rattle.up_num.specs.Pages.{page_number}
-use Rattle.up_num.specs.declared.answers.AskKind.{AskKind}
 use Rattle.up_num.specs.declared.answers.AskKind.TheVariants.{Dirty as DirtyAsk}
 use Rattle.up_bank.specs.declared.kind.FrameKind.{FrameKind}
 use Rattle.up_bank.specs.declared.kind.FrameKind.TheVariants.{Ordinary, Loaned}
+use Rattle.up_asks.specs.Asking.{Asking, asked_in}
 use Rattle.up_pages.specs.declared.page.Page.{Page}
 use Rattle.up_pages.specs.Pages.{PageMap, page_at, size_of, look_of as look_at}
 use Rattle.up_queues.specs.declared.queued.Queued.{Queued}
 use Rattle.up_queues.specs.Queue.{Queue, find_page, chilled}
 use Rattle.up_model.specs.Size.{size}
 use Rattle.up_model.specs.Roles.{users, pagers, was_detached}
-use Rattle.up_model.specs.Asks.{same_kind, asked}
+use Rattle.up_model.specs.Asks.{asked}
 use Rattle.up_model.specs.Use.{last_use, cold_since, generation, newest_epoch}
 use Rattle.up_model.specs.Order.{loose}
 use Rattle.up_model.specs.Modified.{modified}
@@ -22,38 +21,14 @@ use Rattle.up_model.specs.declared.entry.Birth.{Birth}
 use Rattle.up_model.specs.declared.entry.Call.{Call}
 use Rattle.up_model.specs.declared.entry.Call.TheVariants.{Leave}
 use Rattle.up_model.specs.declared.entry.Entry.{Entry}
-use Rattle.up_object.specs.declared.asking.AskMark.{AskMark}
 use Rattle.up_object.specs.declared.marks.Mark.{Mark}
 use Rattle.up_object.specs.declared.marks.Key.{Key}
 use Rattle.up_object.specs.declared.tally.Tally.{Tally as TallyValue}
+use Rattle.up_object.specs.Asks.{AsksStand}
 use Rattle.up_object.specs.Parts.{BankPair, PageStands, mark_at, shown}
 
 abbrev pub Tally : Type 0
 Tally = TallyValue
-
--- what was said of asked pages, newest first, and for how much more there is room
-pub record Asked : Type 0 where
-  pub marks : List AskMark
-  pub places : ℕ
-
-abbrev pub is_of_kind : Option AskKind → AskKind → Bool
-is_of_kind None kind = true
-is_of_kind (Some one) kind = same_kind one kind
-
-abbrev pub is_on_page : Option Span → ℕ → Bool
-is_on_page None p = true
-is_on_page (Some range) p = covers range p
-
-abbrev pub is_about : AskMark → AskKind → ℕ → Bool
-is_about mark kind p = is_of_kind mark.kind kind && is_on_page mark.pages p
-
--- the last word on a page and a kind decides
-abbrev pub asked_in : List AskMark → AskKind → ℕ → Bool
-asked_in [] kind p = false
-asked_in (mark ∷ marks) kind p = cond (is_about mark kind p) mark.on (asked_in marks kind p)
-
-pub record AsksStand (asking : Asked) (birth : Birth) (h : List Entry) : Type 0 where
-  pub pages : (kind : AskKind) (p : ℕ) → asked_in asking.marks kind p ≡ asked birth h kind p
 
 -- who acts, whether a detach was accepted, and whether the object was changed
 pub record TallyStands (tally : Tally) (birth : Birth) (h : List Entry) : Type 0 where
@@ -102,12 +77,12 @@ recooled None item = item
 recooled (Some place) item = chilled place item
 
 -- what the queues are to have of a page
-abbrev pub item_of : PageMap → List Mark → List AskMark → ℕ → Option Queued
+abbrev pub item_of : PageMap → List Mark → Asking → ℕ → Option Queued
 item_of pages marks asks p =
     cond (may_go (shown (look_at (page_at pages p))) (mark_at marks p) (asked_in asks DirtyAsk p)) (Some (keyed_item p (mark_at marks p).key)) None
 
 -- the parts of an object stand for its journal, which is legal
-pub record StandsFor (banks : BankPair) (pages : PageMap) (marks : List Mark) (queue : Queue) (asking : Asked) (tally : Tally) (newest leaves spare : ℕ) (birth : Birth) (h : List Entry) : Type 0 where
+pub record StandsFor (banks : BankPair) (pages : PageMap) (marks : List Mark) (queue : Queue) (asking : Asking) (tally : Tally) (newest leaves spare : ℕ) (birth : Birth) (h : List Entry) : Type 0 where
   pub legal : Legal birth h
   pub kinds : (banks.ordinary.kind ≡ Ordinary) × (banks.loaned.kind ≡ Loaned)
   pub sized : size_of pages ≡ size birth h

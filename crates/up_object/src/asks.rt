@@ -21,92 +21,82 @@ use up_span::Runs;
 impl Object {
     /// Whether a page is asked for with a kind.
     pub fn asked(&self, kind: AskKind, page: PageNo) -> bool
-        requires stub { ⊥ }
         ensures { result ≡ asking.asked self.now.birth self.now.journal kind page.0 }
     {
-        unreachable!()
+        self.asks.asked(kind, page)
     }
 
     /// The number of the next ticket.
     pub fn next_ticket(&self) -> u64
-        requires stub { ⊥ }
         ensures { result ≡ tickets.next_ticket self.now.journal }
     {
-        unreachable!()
+        self.asks.count()
     }
 
     /// What has become of a ticket that somebody holds.
     pub fn outcome(&self, ticket: u64) -> Outcome
-        requires stub { ⊥ }
         requires held { (is_some (tickets.owner self.now.journal ticket) ≡ true) × (tickets.spent self.now.journal ticket ≡ false) }
         ensures { result ≡ tickets.outcome self.now.birth self.now.journal ticket }
     {
-        unreachable!()
+        self.asks.outcome(ticket)
     }
 
     /// The access that waits under a ticket that somebody holds.
     pub fn waiter(&self, ticket: u64) -> &Waiter
-        requires stub { ⊥ }
         requires held { (is_some (tickets.owner self.now.journal ticket) ≡ true) × (tickets.spent self.now.journal ticket ≡ false) }
         ensures access { parked self.now.journal ticket ≡ Some (access_of result.now) }
         ensures within { within_page result.now.off result.now.len ≡ true }
         ensures whole { result.now.write ≡ true → length result.now.bytes ≡ result.now.len }
     {
-        unreachable!()
+        self.asks.waiter(ticket)
     }
 
     /// The next packet that no pager has taken.
     pub fn next_packet(&self) -> Option<Packet>
-        requires stub { ⊥ }
         ensures { result ≡ slice_get (packets.sent self.now.birth self.now.journal) (packets.taken self.now.journal) }
     {
-        unreachable!()
+        self.asks.next_packet()
     }
 
     /// What an ask for these pages would send: the maximal runs of those that aren't asked for already.
     pub fn fresh(&self, alloc: Global, kind: AskKind, range: &PageRange) -> Result<Runs, Memory>
-        requires stub { ⊥ }
         ensures parts { IfOk result (λ parts. parts ≡ runs (λ p. not (asking.asked self.now.birth self.now.journal kind p)) range.now.first 0 range.now.count) }
         ensures few { IfOk result (λ parts. length parts < 2 ^ 32) }
     {
-        unreachable!()
+        self.asks.fresh(alloc, kind, range)
     }
 
     /// The tickets that a call with these events wakes, rising.
     pub fn waking(&self, alloc: Global, events: &[Event]) -> Result<Woken, Memory>
-        requires stub { ⊥ }
         ensures { IfOk result (λ woke. (call : CallValue)
             → ((kind : AskKindValue) (page : ℕ) → asking.resolves self.now.birth self.now.journal call kind page ≡ events_of events.now kind page)
             → woke ≡ tickets.woken self.now.birth self.now.journal call) }
     {
-        unreachable!()
+        self.asks.waking(alloc, events)
     }
 
     /// The tickets that a call which detaches the object wakes, rising: all that wait.
     pub fn all_waiting(&self, alloc: Global) -> Result<Woken, Memory>
-        requires stub { ⊥ }
         ensures { IfOk result (λ woke. (call : CallValue)
             → ((kind : AskKindValue) (page : ℕ) → asking.resolves self.now.birth self.now.journal call kind page ≡ Detached)
             → woke ≡ tickets.woken self.now.birth self.now.journal call) }
     {
-        unreachable!()
+        self.asks.waiting(alloc)
     }
 
     /// How many tickets a call which detaches the object wakes. It takes no memory.
     pub fn count_waiting(&self) -> u64
-        requires stub { ⊥ }
         ensures { (call : CallValue)
             → ((kind : AskKindValue) (page : ℕ) → asking.resolves self.now.birth self.now.journal call kind page ≡ Detached)
             → result ≡ length (tickets.woken self.now.birth self.now.journal call) }
     {
-        unreachable!()
+        self.asks.count_waiting()
     }
 
     /// The asks, packets and tickets of the object.
     pub fn asks(&self) -> &Asks
-        requires stub { ⊥ }
         ensures { AsksStand result.now self.now.birth self.now.journal }
     {
-        unreachable!()
+        &self.asks
     }
 }

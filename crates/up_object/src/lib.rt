@@ -3,7 +3,6 @@
 #![tactic(auto)]
 
 mod answering;
-mod asking;
 mod asks;
 mod banks;
 mod closing;
@@ -14,7 +13,6 @@ pub mod parts;
 mod seating;
 mod tally;
 
-pub use asking::AskMark;
 pub use banks::Banks;
 pub use marks::{Key, Mark};
 pub use object::Object;

@@ -9,13 +9,13 @@ ghost use Rattle.up_model.specs.Looks as looks;
 ghost use Rattle.up_model.specs.Legal.{Legal};
 ghost use Rattle.up_object.specs.Parts.{shown};
 
-use crate::asking::Asking;
 use crate::banks::Banks;
 use crate::marks::Marks;
 use crate::tally::Tally;
 use std::alloc::Global;
 use std::marker::Model;
 use std::snapshot::Snapshot;
+use up_asks::Asks;
 use up_bank::Bank;
 use up_model::{Birth, Entries, Log};
 use up_num::{Memory, PageNo};
@@ -29,7 +29,7 @@ pub struct Object {
     pub(crate) pages: PageList,
     pub(crate) marks: Marks,
     pub(crate) queues: Queues,
-    pub(crate) asking: Asking,
+    pub(crate) asks: Asks,
     pub(crate) tally: Tally,
     pub(crate) newest: u64,
     pub(crate) leaves: u32,
@@ -78,6 +78,7 @@ impl Object {
             cut: false,
             modified: false,
         };
+        let asks = Asks::new(alloc)?;
         let pages = PageList::new(alloc, birth.pages)?;
         Ok(Object {
             birth,
@@ -85,7 +86,7 @@ impl Object {
             pages,
             marks,
             queues,
-            asking: Asking::new(alloc),
+            asks,
             tally,
             newest: 0,
             leaves,
@@ -105,7 +106,7 @@ impl Object {
             pages,
             marks: _,
             queues: _,
-            asking: _,
+            asks: _,
             tally: _,
             newest: _,
             leaves: _,

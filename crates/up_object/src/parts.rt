@@ -1,5 +1,7 @@
 ghost use Rattle.std.specs.Prelude.{◌≡◌, ℕ, ◌+◌, ◌-◌, ◌<◌, ◌≤◌, ◌==◌, ◌&&◌, ◌∷◌, true, false, length, nat_le, nat_lt, None, IfOk, IfErr, OnOk};
 ghost use Rattle.up_bank.specs.declared.kind.FrameKind.{FrameKind as FrameKindValue};
+ghost use Rattle.up_num.specs.declared.answers.AskKind.{AskKind as AskKindValue};
+ghost use Rattle.up_asks.specs.Asking.{pages_of, SameAsks};
 ghost use Rattle.up_model.specs.Looks as looks;
 ghost use Rattle.up_model.specs.Use.{newest_epoch};
 ghost use Rattle.up_model.specs.Changes.{SamePage, SetsState, Reframes, Uses, Fills, Writes, PinsOne, UnpinsOne, Hints, Blanks, Goes, IsDue};
@@ -11,8 +13,6 @@ ghost use Rattle.up_pages.specs.Pages.{page_at, size_of};
 ghost use Rattle.up_model.specs.Size.{size};
 ghost use Rattle.up_model.specs.Concerns.{concerns, keeps_asks, keeps_spent, keeps_roles, keeps_modified, keeps_size};
 
-pub use crate::answering::open_asking;
-use crate::asking::Asking;
 use crate::banks::Banks;
 use crate::closing::{hand_over, leaves_left};
 use crate::marks::{Key, Mark, Marks};
@@ -22,6 +22,7 @@ use crate::seating::settle;
 use crate::tally::Tally;
 use std::alloc::{AllocError, Global};
 use std::marker::Model;
+use up_asks::Asks;
 use up_bank::FrameKind;
 use up_model::{Birth, Entry, Log};
 use up_num::{Memory, PageNo, PageState};
@@ -36,7 +37,7 @@ pub struct Changing {
     pub(crate) pages: PageList,
     pub(crate) marks: Marks,
     pub(crate) queues: Queues,
-    pub(crate) asking: Asking,
+    pub(crate) asks: Asks,
     pub(crate) tally: Tally,
     pub(crate) newest: u64,
     pub(crate) leaves: u32,
@@ -55,6 +56,7 @@ pub struct Changing {
 
 impl Model for Changing {
     ghost use Rattle.std.specs.Prelude.{length};
+    ghost use Rattle.up_object.specs.Asks.{room_of};
     ghost use Rattle.up_object.specs.Change.{Change, counts_of};
     ghost use Rattle.up_pages.specs.Pages.{size_of};
 
@@ -72,7 +74,7 @@ impl Model for Changing {
       pages = size_of o.pages;
       given = length o.given.items;
       frames = counts_of o.given.items o.back.items o.pages;
-      room = record { tickets = 0; packets = 0; changes = 0 };
+      room = room_of o.asks;
     } };
 
     ghost invariant = { ChangeStands };
@@ -337,7 +339,7 @@ impl Changing {
             pages,
             marks,
             mut queues,
-            asking,
+            asks,
             tally,
             newest,
             leaves,
@@ -353,7 +355,7 @@ impl Changing {
             spent_done: _,
             tally_done: _,
         } = self;
-        settle(&pages, &marks, &asking, &mut queues, from, to);
+        settle(&pages, &marks, &asks, &mut queues, from, to);
         hand_over(given, &mut back);
         let newest = entry.epoch.max(newest);
         let leaves = leaves_left(&entry.call, leaves);
@@ -364,7 +366,7 @@ impl Changing {
             pages,
             marks,
             queues,
-            asking,
+            asks,
             tally,
             newest,
             leaves,
@@ -374,14 +376,18 @@ impl Changing {
     }
 }
 
-/// Takes the room that a call may need: for its entry above those reserved for leaves, for changes of its pages, and for frames that come back.
+/// Takes the room that a call may need: for its entry above those reserved for leaves, for changes of its pages, for frames that come back,
+/// for a ticket, packets, and changes of the asked pages.
 fn take_room(
     log: &mut Log,
     pages: &mut PageList,
     back: &mut Frames,
+    asks: &mut Asks,
     leaves: u32,
-    changes: u32,
+    count: u32,
     given: u32,
+    packets: u32,
+    changes: u32,
 ) -> Result<(), Memory>
     requires few { leaves ≤ 128 }
     ensures entries { log.new.entries ≡ log.old.entries }
@@ -389,15 +395,20 @@ fn take_room(
     ensures pages { (p : ℕ) → page_at pages.new p ≡ page_at pages.old p }
     ensures size { size_of pages.new ≡ size_of pages.old }
     ensures items { back.new.items ≡ back.old.items }
+    ensures asks { SameAsks asks.old asks.new }
     ensures enough { OnOk result (leaves < log.new.spare) }
-    ensures ready { OnOk result (changes ≤ pages.new.spare) }
-    ensures room { OnOk result (length back.new.items + (given + changes) ≤ back.new.room) }
+    ensures ready { OnOk result (count ≤ pages.new.spare) }
+    ensures room { OnOk result (length back.new.items + (given + count) ≤ back.new.room) }
+    ensures ticket { OnOk result (0 < asks.new.ticket_room) }
+    ensures packets { OnOk result (packets ≤ asks.new.packet_room) }
+    ensures changes { OnOk result ((kind : AskKindValue) → changes ≤ (pages_of asks.new.pages kind).room) }
 {
-    let Some(frames) = given.checked_add(changes) else {
+    asks.reserve(packets, changes as usize)?;
+    let Some(frames) = given.checked_add(count) else {
         return Err(AllocError);
     };
     log.room(leaves + 1)?;
-    pages.reserve(changes)?;
+    pages.reserve(count)?;
     back.make_room(frames)
 }
 
@@ -419,13 +430,37 @@ pub fn open(
     ensures same { IfErr result (λ failed. failed.1 ≡ object) }
     ensures back { IfErr result (λ failed. failed.2 ≡ given) }
 {
+    open_asking(object, alloc, entry, brings, given, first, limit, 0, 0)
+}
+
+/// Begins a call as `open` does, with room for a ticket, for so many packets, and for so many changes of the asked pages.
+pub fn open_asking(
+    object: Object,
+    alloc: Global,
+    entry: Entry,
+    brings: FrameKind,
+    given: Frames,
+    first: u32,
+    limit: u32,
+    packets: u32,
+    changes: u32,
+) -> Result<Changing, (Memory, Object, Frames)>
+    requires order { first ≤ limit }
+    requires fits { limit ≤ size object.birth object.journal }
+    requires own { AllAre (bank_of object.banks brings) given.items }
+    ensures ok { IfOk result (λ change. change ≡ opened object entry brings given first limit change.frames change.room) }
+    ensures frames { IfOk result (λ change. (kind : FrameKindValue) → of_kind kind change.frames ≡ count_kind kind given.items + held object.birth object.journal kind) }
+    ensures room { IfOk result (λ change. (0 < change.room.tickets) × ((packets ≤ change.room.packets) × (changes ≤ change.room.changes))) }
+    ensures same { IfErr result (λ failed. failed.1 ≡ object) }
+    ensures back { IfErr result (λ failed. failed.2 ≡ given) }
+{
     let Object {
         birth,
         banks,
         mut pages,
         marks,
         queues,
-        asking,
+        mut asks,
         tally,
         newest,
         leaves,
@@ -438,9 +473,12 @@ pub fn open(
         &mut log,
         &mut pages,
         &mut back,
+        &mut asks,
         reserved,
         limit - first,
         count,
+        packets,
+        changes,
     ) {
         Ok(()) => Ok(Changing {
             birth,
@@ -448,7 +486,7 @@ pub fn open(
             pages,
             marks,
             queues,
-            asking,
+            asks,
             tally,
             newest,
             leaves,
@@ -472,7 +510,7 @@ pub fn open(
                 pages,
                 marks,
                 queues,
-                asking,
+                asks,
                 tally,
                 newest,
                 leaves,

@@ -6,8 +6,8 @@ ghost use Rattle.up_model.specs.Looks as looks;
 ghost use Rattle.up_object.specs.Parts.{shown, mark_at};
 ghost use Rattle.up_object.specs.Stands.{may_go, keyed_item, item_of, recooled};
 
-use crate::asking::Asking;
 use crate::marks::{Key, Marks};
+use up_asks::Asks;
 use up_num::{AskKind, PageNo, PageState};
 use up_pages::{Look, PageList};
 use up_queues::Queues;
@@ -63,16 +63,16 @@ fn seat_page(queues: &mut Queues, page: PageNo, key: Option<Key>)
     }
 }
 
-fn seat_at(pages: &PageList, marks: &Marks, asking: &Asking, queues: &mut Queues, page: PageNo)
+fn seat_at(pages: &PageList, marks: &Marks, asks: &Asks, queues: &mut Queues, page: PageNo)
     requires within { page.0 < size_of pages.now }
     requires wide { size_of pages.now ≤ queues.old.room }
     requires beyond { (p : ℕ) → size_of pages.now ≤ p → find_page queues.old.items p ≡ None }
-    ensures pages { (p : ℕ) → find_page queues.new.items p ≡ cond (page.0 == p) (item_of pages.now marks.now asking.now.marks page.0) (find_page queues.old.items p) }
+    ensures pages { (p : ℕ) → find_page queues.new.items p ≡ cond (page.0 == p) (item_of pages.now marks.now asks.now page.0) (find_page queues.old.items p) }
     ensures room { queues.new.room ≡ queues.old.room }
 {
     let _ = queues.len();
-    let asks = asking.asked(AskKind::Dirty, page.0);
-    let key = key_of(pages, marks, asks, page);
+    let asked = asks.asked(AskKind::Dirty, page);
+    let key = key_of(pages, marks, asked, page);
     seat_page(queues, page, key);
 }
 
@@ -80,7 +80,7 @@ fn seat_at(pages: &PageList, marks: &Marks, asking: &Asking, queues: &mut Queues
 pub(crate) fn settle(
     pages: &PageList,
     marks: &Marks,
-    asking: &Asking,
+    asks: &Asks,
     queues: &mut Queues,
     from: u32,
     to: u32,
@@ -89,10 +89,10 @@ pub(crate) fn settle(
     requires bound { to ≤ size_of pages.now }
     requires wide { size_of pages.now ≤ queues.old.room }
     requires beyond { (p : ℕ) → size_of pages.now ≤ p → find_page queues.old.items p ≡ None }
-    ensures pages { (p : ℕ) → find_page queues.new.items p ≡ cond (nat_le from p && nat_lt p to) (item_of pages.now marks.now asking.now.marks p) (find_page queues.old.items p) }
+    ensures pages { (p : ℕ) → find_page queues.new.items p ≡ cond (nat_le from p && nat_lt p to) (item_of pages.now marks.now asks.now p) (find_page queues.old.items p) }
     ensures room { queues.new.room ≡ queues.old.room }
 {
     for page in from..to {
-        seat_at(pages, marks, asking, queues, PageNo(page));
+        seat_at(pages, marks, asks, queues, PageNo(page));
     }
 }

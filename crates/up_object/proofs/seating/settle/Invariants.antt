@@ -7,6 +7,6 @@ use Rattle.up_object.proofs.seating.settle.Given as goal
 
 abbrev pub invariant-loop-page : goal.invariant-loop-page
 invariant-loop-page l = record {
-  pages : (p : ℕ) → find_page l.queues.items p ≡ cond (nat_le l.from p && nat_lt p l.page) (item_of l.pages l.marks l.asking.marks p) (find_page l.fn.queues.items p);
+  pages : (p : ℕ) → find_page l.queues.items p ≡ cond (nat_le l.from p && nat_lt p l.page) (item_of l.pages l.marks l.asks p) (find_page l.fn.queues.items p);
   room : l.queues.room ≡ l.fn.queues.room;
 }

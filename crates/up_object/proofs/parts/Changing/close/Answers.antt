@@ -3,7 +3,7 @@ use Rattle.up_bank.specs.declared.kind.FrameKind.{FrameKind}
 use Rattle.up_pages.specs.Pages.{size_of, held_by}
 use Rattle.up_model.specs.Written.{Written}
 use Rattle.up_model.specs.Size.{size}
-use Rattle.up_model.specs.Concerns.{concerns, keeps_asks, keeps_roles, keeps_modified, keeps_size}
+use Rattle.up_model.specs.Concerns.{concerns, keeps_asks, keeps_spent, keeps_roles, keeps_modified, keeps_size}
 use Rattle.up_model.specs.Changes.{IsDue}
 use Rattle.up_model.proofs.Kept.{kept_size}
 use Rattle.up_object.specs.Change.{Change, Rests, is_done, AllOwn}
@@ -21,6 +21,7 @@ invariant_of-object c = closed _ _ _ _ _ _ _ _ _ _ _ _ c.args.from c.args.to _ _
     (subst (λ (v : Change). (p : ℕ) → is_done v.done p ≡ false → concerns v.birth v.journal v.entry p ≡ false) (sym c.self.view_is) c.requires.pages)
     (subst (λ (v : Change). (p : ℕ) → (nat_le c.args.from p && nat_lt p c.args.to) ≡ false → Rests v.birth v.entry v.journal v.done p) (sym c.self.view_is) c.requires.places)
     (subst (λ (v : Change). v.done.asks ≡ false → keeps_asks v.entry ≡ true) (sym c.self.view_is) c.requires.asks)
+    (subst (λ (v : Change). v.done.spent ≡ false → keeps_spent v.entry ≡ true) (sym c.self.view_is) c.requires.spent)
     (subst (λ (v : Change). v.done.tally ≡ false → (keeps_roles v.entry && keeps_modified v.entry) ≡ true) (sym c.self.view_is) c.requires.tally)
     (subst (λ (v : Change). keeps_size v.entry ≡ true) (sym c.self.view_is) c.requires.size)
     (subst (λ (v : Change). IsDue v.birth v.entry v.journal) (sym c.self.view_is) c.requires.due)
