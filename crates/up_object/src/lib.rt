@@ -5,10 +5,13 @@
 mod asking;
 mod banks;
 mod closing;
+pub mod evicting;
 mod marks;
 mod moves;
 mod object;
+pub mod order;
 pub mod parts;
+mod reading;
 mod seating;
 mod tally;
 
