@@ -61,7 +61,7 @@ pub pages_end : (banks : BankPair) (pages : PageMap) (marks : List Mark) (birth 
     ((p : ℕ) → is_done done p ≡ false → concerns birth h e p ≡ false) → (p : ℕ) → PageStands banks (page_at pages p) (mark_at marks p) birth (e ∷ h) p
 pages_end banks pages marks birth e h done s keeps p = page_end banks (page_at pages p) (mark_at marks p) birth e h p (is_done done p) (s.each p) (keeps p)
 
-leaves_end : (call : Call) (a n : ℕ) → leaves_after call (a - n) ≡ a - cond (is_leave call) (suc n) n
+pub leaves_end : (call : Call) (a n : ℕ) → leaves_after call (a - n) ≡ a - cond (is_leave call) (suc n) n
 leaves_end call a n = elim (is_leave call) as (λ b. cond b (a - n - 1) (a - n) ≡ a - cond b (suc n) n) [
   | true ↦ omega arith
   | false ↦ refl
@@ -80,7 +80,7 @@ fewer : (b : Bool) (n : ℕ) → n ≤ 128 → cond b (n - 1) n ≤ 128
 fewer true n few = omega arith
 fewer false n few = few
 
-less_few : (call : Call) (left had : ℕ) → left ≡ leaves_after call had → had ≤ 128 → left ≤ 128
+pub less_few : (call : Call) (left had : ℕ) → left ≡ leaves_after call had → had ≤ 128 → left ≤ 128
 less_few call left had is few = subst (λ (n : ℕ). n ≤ 128) (sym is) (fewer (is_leave call) had few)
 
 -- an object at the end of a call

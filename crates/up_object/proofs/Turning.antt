@@ -239,16 +239,16 @@ own_puts f g m p rest = elim (m == p) as (λ b. (m == p) ≡ b → cond b (f (g 
 
 -- Frames that come back.
 
-own_append : (banks : BankPair) (xs ys : List Frame) → AllOwn banks xs → AllOwn banks ys → AllOwn banks (xs ++ ys)
+pub own_append : (banks : BankPair) (xs ys : List Frame) → AllOwn banks xs → AllOwn banks ys → AllOwn banks (xs ++ ys)
 own_append banks [] ys all more = more
 own_append banks (x ∷ xs) ys all more = (all.0, own_append banks xs ys all.1 more)
 
-own_page : (banks : BankPair) (page : Page) → HasOwn banks page → AllOwn banks (option_to_list (frame_of page))
+pub own_page : (banks : BankPair) (page : Page) → HasOwn banks page → AllOwn banks (option_to_list (frame_of page))
 own_page banks Absent own = tt
 own_page banks (Zero state) own = tt
 own_page banks (HeldPage frame state) own = (own.bank, tt)
 
-one_at_most : {X : Type 0} (o : Option X) → length (option_to_list o) ≤ 1
+pub one_at_most : {X : Type 0} (o : Option X) → length (option_to_list o) ≤ 1
 one_at_most None = omega arith
 one_at_most (Some x) = omega arith
 

@@ -5,3 +5,4 @@ pub mod Change
 pub mod Changing
 pub mod Whole
 pub mod Object
+pub mod Ordering

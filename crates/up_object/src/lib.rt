@@ -6,10 +6,13 @@ mod answering;
 mod asks;
 mod banks;
 mod closing;
+pub mod evicting;
 mod marks;
 mod moves;
 mod object;
+pub mod order;
 pub mod parts;
+mod reading;
 mod seating;
 mod tally;
 

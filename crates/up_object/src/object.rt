@@ -3,6 +3,7 @@ ghost use Rattle.up_bank.specs.declared.kind.FrameKind.{FrameKind as FrameKindVa
 ghost use Rattle.up_bank.specs.declared.kind.FrameKind.TheVariants.{Ordinary as OrdinaryKind, Loaned as LoanedKind};
 ghost use Rattle.up_pages.specs.Frames.{count_kind};
 ghost use Rattle.up_object.specs.Whole.{held};
+ghost use Rattle.up_object.specs.Change.{AllOwn};
 ghost use Rattle.up_model.specs.Size as sizes;
 ghost use Rattle.up_model.specs.Pins as pinning;
 ghost use Rattle.up_model.specs.Looks as looks;
@@ -98,6 +99,7 @@ impl Object {
     pub fn end(self) -> (Entries, Frames)
         ensures journal { result.0 ≡ reverse self.journal }
         ensures frames { (kind : FrameKindValue) → count_kind kind result.1.items ≡ held self.birth self.journal kind }
+        ensures own { AllOwn self.banks result.1.items }
         ensures legal { Legal self.birth self.journal }
     {
         let Object {

@@ -378,7 +378,7 @@ impl Changing {
 
 /// Takes the room that a call may need: for its entry above those reserved for leaves, for changes of its pages, for frames that come back,
 /// for a ticket, packets, and changes of the asked pages.
-fn take_room(
+fn take_all_room(
     log: &mut Log,
     pages: &mut PageList,
     back: &mut Frames,
@@ -404,6 +404,28 @@ fn take_room(
     ensures changes { OnOk result ((kind : AskKindValue) → changes ≤ (pages_of asks.new.pages kind).room) }
 {
     asks.reserve(packets, changes as usize)?;
+    take_room(log, pages, back, leaves, count, given)
+}
+
+/// Takes the room that a call may need: for its entry above those reserved for leaves, for changes of its pages, and for frames that come back.
+pub(crate) fn take_room(
+    log: &mut Log,
+    pages: &mut PageList,
+    back: &mut Frames,
+    leaves: u32,
+    count: u32,
+    given: u32,
+) -> Result<(), Memory>
+    requires few { leaves ≤ 128 }
+    ensures entries { log.new.entries ≡ log.old.entries }
+    ensures spare { log.old.spare ≤ log.new.spare }
+    ensures pages { (p : ℕ) → page_at pages.new p ≡ page_at pages.old p }
+    ensures size { size_of pages.new ≡ size_of pages.old }
+    ensures items { back.new.items ≡ back.old.items }
+    ensures enough { OnOk result (leaves < log.new.spare) }
+    ensures ready { OnOk result (count ≤ pages.new.spare) }
+    ensures room { OnOk result (length back.new.items + (given + count) ≤ back.new.room) }
+{
     let Some(frames) = given.checked_add(count) else {
         return Err(AllocError);
     };
@@ -469,7 +491,7 @@ pub fn open_asking(
     let mut back = Frames::new(alloc);
     let reserved = leaves_left(&entry.call, leaves);
     let count = given.len();
-    match take_room(
+    match take_all_room(
         &mut log,
         &mut pages,
         &mut back,
