@@ -54,6 +54,11 @@ tally_end tally birth e h false s keeps =
       changed = s.changed ∙ sym (kept_modified birth e h both.1);
     }
 
+-- the number of pages, where it was set or stays
+pub size_end : (n : ℕ) (birth : Birth) (e : Entry) (h : List Entry) (done : Bool) → n ≡ size birth (up_to done e h) → (done ≡ false → keeps_size e ≡ true) → n ≡ size birth (e ∷ h)
+size_end n birth e h true s keeps = s
+size_end n birth e h false s keeps = s ∙ sym (kept_size birth e h (keeps refl))
+
 page_end : (banks : BankPair) (page : Page) (mark : Mark) (birth : Birth) (e : Entry) (h : List Entry) (p : ℕ) (done : Bool) → PageStands banks page mark birth (up_to done e h) p →
     (done ≡ false → concerns birth h e p ≡ false) → PageStands banks page mark birth (e ∷ h) p
 page_end banks page mark birth e h p true s keeps = s
@@ -85,27 +90,29 @@ fewer false n few = few
 less_few : (call : Call) (left had : ℕ) → left ≡ leaves_after call had → had ≤ 128 → left ≤ 128
 less_few call left had is few = subst (λ (n : ℕ). n ≤ 128) (sym is) (fewer (is_leave call) had few)
 
--- an object at the end of a call
-pub closed : (banks : BankPair) (pages : PageMap) (marks : List Mark) (brings : FrameKind) (given back : Stock) (rest : Rest) (birth : Birth) (e : Entry) (h h' : List Entry) (done : Done) (from to : ℕ)
+-- an object at the end of a call, over pages and marks of which those past its end were taken off
+pub closed : (banks : BankPair) (pages pages' : PageMap) (marks marks' : List Mark) (brings : FrameKind) (given back : Stock) (rest : Rest) (birth : Birth) (e : Entry) (h h' : List Entry) (done : Done) (from to : ℕ)
     (queue' : Queue) (newest' leaves' spare' : ℕ) → ChangeStandsFor banks pages marks brings given back rest birth e h done →
+    ((p : ℕ) → PageStands banks (page_at pages' p) (mark_at marks' p) birth (e ∷ h) p) → length marks' ≡ size_of pages' → size_of pages' ≡ size birth (e ∷ h) → size_of pages' ≤ size_of pages →
     ((p : ℕ) → is_done done p ≡ false → concerns birth h e p ≡ false) → ((p : ℕ) → (nat_le from p && nat_lt p to) ≡ false → Rests birth e h done p) →
-    (done.asks ≡ false → keeps_asks e ≡ true) → (done.tally ≡ false → (keeps_roles e && keeps_modified e) ≡ true) → keeps_size e ≡ true → IsDue birth e h →
+    (done.asks ≡ false → keeps_asks e ≡ true) → (done.tally ≡ false → (keeps_roles e && keeps_modified e) ≡ true) → IsDue birth e h →
     ((p : ℕ) → find_page queue'.items p ≡ cond (nat_le from p && nat_lt p to) (item_of pages marks rest.asked.marks p) (find_page rest.queue.items p)) → queue'.room ≡ rest.queue.room →
     newest' ≡ max e.epoch rest.newest → leaves' ≡ leaves_after e.call rest.leaves → spare' ≡ rest.spare - 1 → h' ≡ e ∷ h →
-    StandsFor banks pages marks queue' rest.asked rest.tally newest' leaves' spare' birth h'
-closed banks pages marks brings given back rest birth e h h' done from to queue' newest' leaves' spare' s keeps places asks tally fixed due finds room newest leaves spare is =
+    StandsFor banks pages' marks' queue' rest.asked rest.tally newest' leaves' spare' birth h'
+closed banks pages pages' marks marks' brings given back rest birth e h h' done from to queue' newest' leaves' spare' s each marked sized less keeps places asks tally due finds room newest leaves spare is =
     let stand = pages_end banks pages marks birth e h done s.part keeps in
     let asking = asks_end rest.asked birth e h done.asks s.others.asks asks in
     let enough = s.others.room in
     let few = s.others.few in
+    let wide = s.others.wide in
     rw is (record {
       legal = (s.legal, due.properly, due.answer);
       kinds = s.kinds;
-      sized = s.sized ∙ sym (kept_size birth e h fixed);
-      each = stand;
-      marked = s.part.marked;
+      sized = sized;
+      each = each;
+      marked = marked;
       queued = λ p. finds p ∙ seat_end banks pages marks rest birth e h done p (nat_le from p && nat_lt p to) stand asking (s.others.queued p) keeps (places p);
-      wide = subst (λ (n : ℕ). size_of pages ≤ n) (sym room) s.others.wide;
+      wide = subst (λ (n : ℕ). size_of pages' ≤ n) (sym room) (omega arith);
       asks = asking;
       tallied = tally_end rest.tally birth e h done.tally s.others.tallied tally;
       epoch = ap (max e.epoch) s.others.epoch ∙ sym newest;
@@ -177,11 +184,12 @@ pub begins : (banks : BankPair) (pages pages' : PageMap) (marks : List Mark) (qu
     StandsFor banks pages marks queue asking tally newest leaves spare birth h → h' ≡ h → ((p : ℕ) → page_at pages' p ≡ page_at pages p) → size_of pages' ≡ size_of pages → first ≤ limit → limit ≤ size birth h →
     AllAre (bank_of banks brings) given.items → back.items ≡ [] → length back.items + (length given.items + (limit - first)) ≤ back.room → limit - first ≤ pages'.spare → leaves_after e.call leaves < spare' →
     ChangeStandsFor banks pages' marks brings given back (record { queue = queue; asked = asking; tally = tally; newest = newest; leaves = leaves; spare = spare' }) birth e h'
-    (record { first = first; mark = first; limit = limit; asks = false; tally = false })
+    (record { first = first; mark = first; limit = limit; asks = false; tally = false; size = false })
 begins banks pages pages' marks queue asking tally newest leaves spare spare' birth h h' e brings given back first limit s same puts sized order fits own none room ready enough = rw same (record {
   legal = s.legal;
   kinds = s.kinds;
   sized = sized ∙ s.sized;
+  grown = subst (λ (n : ℕ). n ≤ size_of pages') (sized ∙ s.sized) (omega arith);
   part = record {
     each = λ p. rw (undone first p, puts p) (s.each p);
     marked = s.marked ∙ sym sized;

@@ -19,13 +19,14 @@ use Rattle.up_object.specs.Parts.{BankPair, bank_of, PageStands, mark_at}
 use Rattle.up_object.specs.Whole.{Whole}
 use Rattle.up_object.specs.Stands.{Asked, AsksStand, Tally, TallyStands, seat, reserved, leaves_after}
 
--- how far a call has come: its pages are those from `first` up to `limit`, and those below `mark` are done
+-- how far a call has come: its pages are those from `first` up to `limit`, and those below `mark` are done; then what else is done
 pub record Done : Type 0 where
   pub first : ℕ
   pub mark : ℕ
   pub limit : ℕ
   pub asks : Bool
   pub tally : Bool
+  pub size : Bool
 
 -- how many frames there are of each kind
 pub record Counts : Type 0 where
@@ -129,7 +130,8 @@ pub record ChangeStandsFor (banks : BankPair) (pages : PageMap) (marks : List Ma
     (birth : Birth) (e : Entry) (h : List Entry) (done : Done) : Type 0 where
   pub legal : Legal birth h
   pub kinds : (banks.ordinary.kind ≡ Ordinary) × (banks.loaned.kind ≡ Loaned)
-  pub sized : size_of pages ≡ size birth h
+  pub sized : size_of pages ≡ size birth (up_to done.size e h)
+  pub grown : size birth h ≤ size_of pages
   pub part : PagesStand banks pages marks birth e h done
   pub stock : FramesStand banks brings given back done
   pub others : RestStands rest (size_of pages) birth e h done
@@ -142,8 +144,22 @@ opened whole e brings given first limit frames = record {
   entry = e;
   banks = whole.banks;
   brings = brings;
-  done = record { first = first; mark = first; limit = limit; asks = false; tally = false };
+  done = record { first = first; mark = first; limit = limit; asks = false; tally = false; size = false };
   pages = size whole.birth whole.journal;
   given = length given.items;
   frames = frames;
 }
+
+-- the tally stands for the journal with the entry
+abbrev pub tally_set : Change → Change
+tally_set change = record change { done = record change.done { tally = true } }
+
+-- a call that is given no frames
+abbrev pub no_frames : Stock
+no_frames = record { items = []; room = 0 }
+
+-- an object at the beginning of a call that brings pages, which are absent still
+abbrev pub grown : Whole → Entry → ℕ → Counts → Change
+grown whole e pages frames =
+    let change = opened whole e Ordinary no_frames (size whole.birth whole.journal) pages frames in
+    record change { pages = pages; done = record change.done { size = true } }

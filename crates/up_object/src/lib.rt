@@ -5,15 +5,20 @@
 mod asking;
 mod banks;
 mod closing;
+mod leaving;
 mod marks;
 mod moves;
 mod object;
 pub mod parts;
+mod roles;
 mod seating;
+mod sizing;
 mod tally;
 
 pub use asking::AskMark;
 pub use banks::Banks;
+pub use leaving::open_leaving;
 pub use marks::{Key, Mark};
 pub use object::Object;
+pub use sizing::open_growing;
 pub use tally::Tally;

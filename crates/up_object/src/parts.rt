@@ -49,6 +49,7 @@ pub struct Changing {
     pub(crate) limit: u32,
     pub(crate) asks_done: bool,
     pub(crate) tally_done: bool,
+    pub(crate) size_done: bool,
 }
 
 impl Model for Changing {
@@ -66,7 +67,7 @@ impl Model for Changing {
       entry = o.entry;
       banks = o.banks;
       brings = o.brings;
-      done = record { first = o.first; mark = o.mark; limit = o.limit; asks = o.asks_done; tally = o.tally_done };
+      done = record { first = o.first; mark = o.mark; limit = o.limit; asks = o.asks_done; tally = o.tally_done; size = o.size_done };
       pages = size_of o.pages;
       given = length o.given.items;
       frames = counts_of o.given.items o.back.items o.pages;
@@ -321,7 +322,7 @@ impl Changing {
         requires places { (p : ℕ) → (nat_le from p && nat_lt p to) ≡ false → Rests self.birth self.entry self.journal self.done p }
         requires asks { self.done.asks ≡ false → keeps_asks self.entry ≡ true }
         requires tally { self.done.tally ≡ false → (keeps_roles self.entry && keeps_modified self.entry) ≡ true }
-        requires size { keeps_size self.entry ≡ true }
+        requires size { self.done.size ≡ false → keeps_size self.entry ≡ true }
         requires due { IsDue self.birth self.entry self.journal }
         ensures object { result.0 ≡ record { birth = self.birth; journal = self.entry ∷ self.journal; banks = self.banks } }
         ensures frames { (kind : FrameKindValue) → count_kind kind result.1.items + held self.birth (self.entry ∷ self.journal) kind ≡ of_kind kind self.frames }
@@ -347,6 +348,7 @@ impl Changing {
             limit: _,
             asks_done: _,
             tally_done: _,
+            size_done: _,
         } = self;
         settle(&pages, &marks, &asking, &mut queues, from, to);
         hand_over(given, &mut back);
@@ -457,6 +459,7 @@ pub fn open(
             limit,
             asks_done: false,
             tally_done: false,
+            size_done: false,
         }),
         Err(memory) => {
             back.end();
