@@ -33,7 +33,7 @@ use Rattle.up_queues.specs.declared.queued.Queued.{Queued}
 use Rattle.up_model.proofs.Equations.{value_none}
 use Rattle.up_object.specs.Stands.{Asked, AsksStand, Tally, TallyStands, asked_in, seat, item_of, reserved, leaves_after, is_leave, leave_calls, StandsFor}
 use Rattle.up_object.specs.Change.{Done, Rest, RestStands, Counts, of_kind, counts_of, frames_in_all, is_done, up_to, PagesStand, FramesStand, AllAre, AllOwn, Rests, ChangeStandsFor}
-use Rattle.up_object.specs.Whole.{held, is_framed_by, same_loan}
+use Rattle.up_object.specs.Whole.{Whole, held, is_framed_by, same_loan}
 use Rattle.up_object.proofs.Turning.{keeps_page, kind_given}
 use Rattle.up_object.proofs.Seats.{seat_is, seat_stays, seat_beyond}
 
@@ -90,27 +90,28 @@ fewer false n few = few
 less_few : (call : Call) (left had : ℕ) → left ≡ leaves_after call had → had ≤ 128 → left ≤ 128
 less_few call left had is few = subst (λ (n : ℕ). n ≤ 128) (sym is) (fewer (is_leave call) had few)
 
--- an object at the end of a call, over pages and marks of which those past its end were taken off
-pub closed : (banks : BankPair) (pages pages' : PageMap) (marks marks' : List Mark) (brings : FrameKind) (given back : Stock) (rest : Rest) (birth : Birth) (e : Entry) (h h' : List Entry) (done : Done) (from to : ℕ)
+-- an object at the end of a call, after absent pages past its size were taken off
+pub closed : (banks : BankPair) (pages pages' : PageMap) (marks : List Mark) (brings : FrameKind) (given back : Stock) (rest : Rest) (birth : Birth) (e : Entry) (h h' : List Entry) (done : Done) (from to : ℕ)
     (queue' : Queue) (newest' leaves' spare' : ℕ) → ChangeStandsFor banks pages marks brings given back rest birth e h done →
-    ((p : ℕ) → PageStands banks (page_at pages' p) (mark_at marks' p) birth (e ∷ h) p) → length marks' ≡ size_of pages' → size_of pages' ≡ size birth (e ∷ h) → size_of pages' ≤ size_of pages →
+    ((p : ℕ) → page_at pages' p ≡ page_at pages p) → size_of pages' ≡ size birth (e ∷ h) → size_of pages' ≤ size_of pages →
     ((p : ℕ) → is_done done p ≡ false → concerns birth h e p ≡ false) → ((p : ℕ) → (nat_le from p && nat_lt p to) ≡ false → Rests birth e h done p) →
     (done.asks ≡ false → keeps_asks e ≡ true) → (done.tally ≡ false → (keeps_roles e && keeps_modified e) ≡ true) → IsDue birth e h →
     ((p : ℕ) → find_page queue'.items p ≡ cond (nat_le from p && nat_lt p to) (item_of pages marks rest.asked.marks p) (find_page rest.queue.items p)) → queue'.room ≡ rest.queue.room →
     newest' ≡ max e.epoch rest.newest → leaves' ≡ leaves_after e.call rest.leaves → spare' ≡ rest.spare - 1 → h' ≡ e ∷ h →
-    StandsFor banks pages' marks' queue' rest.asked rest.tally newest' leaves' spare' birth h'
-closed banks pages pages' marks marks' brings given back rest birth e h h' done from to queue' newest' leaves' spare' s each marked sized less keeps places asks tally due finds room newest leaves spare is =
+    StandsFor banks pages' marks queue' rest.asked rest.tally newest' leaves' spare' birth h'
+closed banks pages pages' marks brings given back rest birth e h h' done from to queue' newest' leaves' spare' s puts sized less keeps places asks tally due finds room newest leaves spare is =
     let stand = pages_end banks pages marks birth e h done s.part keeps in
     let asking = asks_end rest.asked birth e h done.asks s.others.asks asks in
     let enough = s.others.room in
     let few = s.others.few in
     let wide = s.others.wide in
+    let marked = s.part.marked in
     rw is (record {
       legal = (s.legal, due.properly, due.answer);
       kinds = s.kinds;
       sized = sized;
-      each = each;
-      marked = marked;
+      each = λ p. subst (λ (page : Page). PageStands banks page (mark_at marks p) birth (e ∷ h) p) (sym (puts p)) (stand p);
+      marked = omega arith;
       queued = λ p. finds p ∙ seat_end banks pages marks rest birth e h done p (nat_le from p && nat_lt p to) stand asking (s.others.queued p) keeps (places p);
       wide = subst (λ (n : ℕ). size_of pages' ≤ n) (sym room) (omega arith);
       asks = asking;
@@ -192,7 +193,7 @@ begins banks pages pages' marks queue asking tally newest leaves spare spare' bi
   grown = subst (λ (n : ℕ). n ≤ size_of pages') (sized ∙ s.sized) (omega arith);
   part = record {
     each = λ p. rw (undone first p, puts p) (s.each p);
-    marked = s.marked ∙ sym sized;
+    marked = let marked = s.marked in omega arith;
     order = omega arith;
     ends = order;
     fits = subst (λ (n : ℕ). limit ≤ n) (sym (sized ∙ s.sized)) fits;
@@ -255,7 +256,7 @@ first_stands banks pages marks queue asking tally leaves spare birth h kinds non
   kinds = kinds;
   sized = sized;
   each = λ p. first_page banks (page_at pages p) (mark_at marks p) birth p (gone p) (bare p);
-  marked = marked ∙ sym sized;
+  marked = omega arith;
   queued = λ p. ap (λ (xs : List Queued). find_page xs p) empty ∙ sym (first_seat birth p);
   wide = subst (λ (n : ℕ). n ≤ queue.room) (sym sized) wide;
   asks = record { pages = λ kind p. ap (λ (xs : List AskMark). asked_in xs kind p) unasked };
@@ -265,3 +266,16 @@ first_stands banks pages marks queue asking tally leaves spare birth h kinds non
   few = few;
   room = room;
 })
+
+two_none : (g b n m : ℕ) → g ≡ 0 → b ≡ 0 → n ≡ m → g + (b + n) ≡ m
+two_none g b n m none none_too same = omega arith
+
+-- no frames are given, and none come back yet; the pages have the same frames
+pub frames_none : (kind : FrameKind) (banks : BankPair) (pages pages' : PageMap) (marks : List Mark) (given back : List Frame) (birth : Birth) (h : List Entry) (whole : Whole) →
+    record { birth = birth; journal = h; banks = banks } ≡ whole → given ≡ [] → back ≡ [] → ((p : ℕ) → PageStands banks (page_at pages p) (mark_at marks p) birth h p) → size_of pages ≡ size birth h →
+    held_by kind pages' ≡ held_by kind pages → of_kind kind (counts_of given back pages') ≡ held whole.birth whole.journal kind
+frames_none kind banks pages pages' marks given back birth h whole is none none_too stand sized same =
+    of_counts kind given back pages'
+    ∙ two_none (count_kind kind given) (count_kind kind back) (held_by kind pages') (held birth h kind) (ap (λ (xs : List Frame). count_kind kind xs) none) (ap (λ (xs : List Frame). count_kind kind xs) none_too)
+    (same ∙ held_is banks pages marks birth h kind stand sized)
+    ∙ ap (λ (v : Whole). held v.birth v.journal kind) is

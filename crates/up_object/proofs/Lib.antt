@@ -1,3 +1,5 @@
 pub mod Turning
 pub mod Seats
 pub mod Ending
+pub mod Tallying
+pub mod Grown

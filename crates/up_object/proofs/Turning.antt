@@ -63,7 +63,7 @@ turned banks pages pages' marks marks' page mark birth e h done s left puts size
         let now : mark_at marks' p ≡ mark_at marks p = sets p ∙ ap (λ b. cond b mark (mark_at marks p)) q in
         rw (here, now, done_else done.first done.mark p q) (s.each p)
   ] refl;
-  marked = count ∙ s.marked ∙ sym size;
+  marked = let marked = s.marked in omega arith;
   order = let low = s.order in omega arith;
   ends = omega arith;
   fits = let fits = s.fits in omega arith;

@@ -78,7 +78,7 @@ next_using uses change = record change { done = next_done change.done; given = c
 -- each page stands for the journal before the entry, or with it where it is done
 pub record PagesStand (banks : BankPair) (pages : PageMap) (marks : List Mark) (birth : Birth) (e : Entry) (h : List Entry) (done : Done) : Type 0 where
   pub each : (p : ℕ) → PageStands banks (page_at pages p) (mark_at marks p) birth (up_to (is_done done p) e h) p
-  pub marked : length marks ≡ size_of pages
+  pub marked : size_of pages ≤ length marks
   pub order : done.first ≤ done.mark
   pub ends : done.mark ≤ done.limit
   pub fits : done.limit ≤ size_of pages
@@ -149,6 +149,10 @@ opened whole e brings given first limit frames = record {
   given = length given.items;
   frames = frames;
 }
+
+-- all pages below this one are done
+abbrev pub at_mark : ℕ → Change → Change
+at_mark mark change = record change { done = record change.done { mark = mark } }
 
 -- the tally stands for the journal with the entry
 abbrev pub tally_set : Change → Change

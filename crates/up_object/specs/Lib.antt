@@ -4,3 +4,4 @@ pub mod Change
 pub mod Changing
 pub mod Whole
 pub mod Object
+pub mod Roles

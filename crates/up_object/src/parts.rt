@@ -372,7 +372,7 @@ impl Changing {
 }
 
 /// Takes the room that a call may need: for its entry above those reserved for leaves, for changes of its pages, and for frames that come back.
-fn take_room(
+pub(crate) fn take_room(
     log: &mut Log,
     pages: &mut PageList,
     back: &mut Frames,

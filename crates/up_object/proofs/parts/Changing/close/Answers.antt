@@ -1,4 +1,4 @@
-use Rattle.std.proofs.Common.{◌≡◌, ℕ, ◌≤◌, ◌&&◌, false, true, ◌∷◌, sym, subst, ap, ◌∙◌, arith, nat_le, nat_lt}
+use Rattle.std.proofs.Common.{◌≡◌, ℕ, ◌≤◌, ◌&&◌, false, true, ◌∷◌, sym, subst, ap, ◌∙◌, arith, nat_le, nat_lt, refl}
 use Rattle.up_bank.specs.declared.kind.FrameKind.{FrameKind}
 use Rattle.up_pages.specs.Pages.{size_of, held_by}
 use Rattle.up_model.specs.Written.{Written}
@@ -20,7 +20,7 @@ invariant_of-object c =
     let s = c.self.invariant in
     let keeps = subst (λ (v : Change). (p : ℕ) → is_done v.done p ≡ false → concerns v.birth v.journal v.entry p ≡ false) (sym c.self.view_is) c.requires.pages in
     let fixed = subst (λ (v : Change). v.done.size ≡ false → keeps_size v.entry ≡ true) (sym c.self.view_is) c.requires.size in
-    closed _ _ _ _ _ _ _ _ _ _ _ _ _ _ c.args.from c.args.to _ _ _ _ s (pages_end _ _ _ _ _ _ _ s.part keeps) s.part.marked
+    closed _ _ c.self.inside.pages _ _ _ _ _ _ _ _ _ _ c.args.from c.args.to _ _ _ _ s (λ p. refl)
     (size_end _ c.self.inside.birth c.self.inside.entry c.self.inside.log.entries c.self.inside.size_done s.sized fixed) (omega arith) keeps
     (subst (λ (v : Change). (p : ℕ) → (nat_le c.args.from p && nat_lt p c.args.to) ≡ false → Rests v.birth v.entry v.journal v.done p) (sym c.self.view_is) c.requires.places)
     (subst (λ (v : Change). v.done.asks ≡ false → keeps_asks v.entry ≡ true) (sym c.self.view_is) c.requires.asks)
