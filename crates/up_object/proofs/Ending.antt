@@ -34,7 +34,7 @@ use Rattle.up_model.proofs.Equations.{value_none}
 use Rattle.up_object.specs.Stands.{Tally, TallyStands, seat, item_of, reserved, leaves_after, is_leave, leave_calls, StandsFor}
 use Rattle.up_object.specs.Asks.{AsksStand}
 use Rattle.up_object.specs.Change.{Done, Rest, RestStands, Counts, of_kind, counts_of, frames_in_all, is_done, up_to, PagesStand, FramesStand, AllAre, AllOwn, Rests, ChangeStandsFor}
-use Rattle.up_object.specs.Whole.{held, is_framed_by, same_loan}
+use Rattle.up_object.specs.Whole.{Whole, held, is_framed_by, same_loan}
 use Rattle.up_object.proofs.Turning.{keeps_page, kind_given}
 use Rattle.up_object.proofs.Waits.{asks_end, roomy_asks}
 use Rattle.up_object.proofs.Seats.{seat_is, seat_stays, seat_beyond}
@@ -51,6 +51,11 @@ tally_end tally birth e h false s keeps =
       cut_off = s.cut_off ∙ sym roles.cut_off;
       changed = s.changed ∙ sym (kept_modified birth e h both.1);
     }
+
+-- the number of pages, where it was set or stays
+pub size_end : (n : ℕ) (birth : Birth) (e : Entry) (h : List Entry) (done : Bool) → n ≡ size birth (up_to done e h) → (done ≡ false → keeps_size e ≡ true) → n ≡ size birth (e ∷ h)
+size_end n birth e h true s keeps = s
+size_end n birth e h false s keeps = s ∙ sym (kept_size birth e h (keeps refl))
 
 page_end : (banks : BankPair) (page : Page) (mark : Mark) (birth : Birth) (e : Entry) (h : List Entry) (p : ℕ) (done : Bool) → PageStands banks page mark birth (up_to done e h) p →
     (done ≡ false → concerns birth h e p ≡ false) → PageStands banks page mark birth (e ∷ h) p
@@ -83,27 +88,30 @@ fewer false n few = few
 pub less_few : (call : Call) (left had : ℕ) → left ≡ leaves_after call had → had ≤ 128 → left ≤ 128
 less_few call left had is few = subst (λ (n : ℕ). n ≤ 128) (sym is) (fewer (is_leave call) had few)
 
--- an object at the end of a call
-pub closed : (banks : BankPair) (pages : PageMap) (marks : List Mark) (brings : FrameKind) (given back : Stock) (rest : Rest) (birth : Birth) (e : Entry) (h h' : List Entry) (done : Done) (from to : ℕ)
+-- an object at the end of a call, after absent pages past its size were taken off
+pub closed : (banks : BankPair) (pages pages' : PageMap) (marks : List Mark) (brings : FrameKind) (given back : Stock) (rest : Rest) (birth : Birth) (e : Entry) (h h' : List Entry) (done : Done) (from to : ℕ)
     (queue' : Queue) (newest' leaves' spare' : ℕ) → ChangeStandsFor banks pages marks brings given back rest birth e h done →
+    ((p : ℕ) → page_at pages' p ≡ page_at pages p) → size_of pages' ≡ size birth (e ∷ h) → size_of pages' ≤ size_of pages →
     ((p : ℕ) → is_done done p ≡ false → concerns birth h e p ≡ false) → ((p : ℕ) → (nat_le from p && nat_lt p to) ≡ false → Rests birth e h done p) →
-    (done.asks ≡ false → keeps_asks e ≡ true) → (done.spent ≡ false → keeps_spent e ≡ true) → (done.tally ≡ false → (keeps_roles e && keeps_modified e) ≡ true) → keeps_size e ≡ true → IsDue birth e h →
+    (done.asks ≡ false → keeps_asks e ≡ true) → (done.spent ≡ false → keeps_spent e ≡ true) → (done.tally ≡ false → (keeps_roles e && keeps_modified e) ≡ true) → IsDue birth e h →
     ((p : ℕ) → find_page queue'.items p ≡ cond (nat_le from p && nat_lt p to) (item_of pages marks rest.asks p) (find_page rest.queue.items p)) → queue'.room ≡ rest.queue.room →
     newest' ≡ max e.epoch rest.newest → leaves' ≡ leaves_after e.call rest.leaves → spare' ≡ rest.spare - 1 → h' ≡ e ∷ h →
-    StandsFor banks pages marks queue' rest.asks rest.tally newest' leaves' spare' birth h'
-closed banks pages marks brings given back rest birth e h h' done from to queue' newest' leaves' spare' s keeps places asks spends tally fixed due finds room newest leaves spare is =
+    StandsFor banks pages' marks queue' rest.asks rest.tally newest' leaves' spare' birth h'
+closed banks pages pages' marks brings given back rest birth e h h' done from to queue' newest' leaves' spare' s puts sized less keeps places asks spends tally due finds room newest leaves spare is =
     let stand = pages_end banks pages marks birth e h done s.part keeps in
     let asking = asks_end rest.asks birth e h done.asks done.spent s.others.asks asks spends in
     let enough = s.others.room in
     let few = s.others.few in
+    let wide = s.others.wide in
+    let marked = s.part.marked in
     rw is (record {
       legal = (s.legal, due.properly, due.answer);
       kinds = s.kinds;
-      sized = s.sized ∙ sym (kept_size birth e h fixed);
-      each = stand;
-      marked = s.part.marked;
+      sized = sized;
+      each = λ p. subst (λ (page : Page). PageStands banks page (mark_at marks p) birth (e ∷ h) p) (sym (puts p)) (stand p);
+      marked = omega arith;
       queued = λ p. finds p ∙ seat_end banks pages marks rest birth e h done p (nat_le from p && nat_lt p to) stand asking (s.others.queued p) keeps (places p);
-      wide = subst (λ (n : ℕ). size_of pages ≤ n) (sym room) s.others.wide;
+      wide = subst (λ (n : ℕ). size_of pages' ≤ n) (sym room) (omega arith);
       asks = asking;
       tallied = tally_end rest.tally birth e h done.tally s.others.tallied tally;
       epoch = ap (max e.epoch) s.others.epoch ∙ sym newest;
@@ -175,14 +183,15 @@ pub begins : (banks : BankPair) (pages pages' : PageMap) (marks : List Mark) (qu
     StandsFor banks pages marks queue asking tally newest leaves spare birth h → h' ≡ h → ((p : ℕ) → page_at pages' p ≡ page_at pages p) → size_of pages' ≡ size_of pages → SameAsks asking asking' → first ≤ limit → limit ≤ size birth h →
     AllAre (bank_of banks brings) given.items → back.items ≡ [] → length back.items + (length given.items + (limit - first)) ≤ back.room → limit - first ≤ pages'.spare → leaves_after e.call leaves < spare' →
     ChangeStandsFor banks pages' marks brings given back (record { queue = queue; asks = asking'; tally = tally; newest = newest; leaves = leaves; spare = spare' }) birth e h'
-    (record { first = first; mark = first; limit = limit; asks = false; spent = false; tally = false })
+    (record { first = first; mark = first; limit = limit; asks = false; spent = false; tally = false; size = false })
 begins banks pages pages' marks queue asking asking' tally newest leaves spare spare' birth h h' e brings given back first limit s same puts sized roomy order fits own none room ready enough = rw same (record {
   legal = s.legal;
   kinds = s.kinds;
   sized = sized ∙ s.sized;
+  grown = subst (λ (n : ℕ). n ≤ size_of pages') (sized ∙ s.sized) (omega arith);
   part = record {
     each = λ p. rw (undone first p, puts p) (s.each p);
-    marked = s.marked ∙ sym sized;
+    marked = let marked = s.marked in omega arith;
     order = omega arith;
     ends = order;
     fits = subst (λ (n : ℕ). limit ≤ n) (sym (sized ∙ s.sized)) fits;
@@ -265,7 +274,7 @@ first_stands banks pages marks queue asking tally leaves spare birth h kinds non
   kinds = kinds;
   sized = sized;
   each = λ p. first_page banks (page_at pages p) (mark_at marks p) birth p (gone p) (bare p);
-  marked = marked ∙ sym sized;
+  marked = omega arith;
   queued = λ p. ap (λ (xs : List Queued). find_page xs p) empty ∙ sym (first_seat birth p);
   wide = subst (λ (n : ℕ). n ≤ queue.room) (sym sized) wide;
   asks = unasked;
@@ -275,3 +284,16 @@ first_stands banks pages marks queue asking tally leaves spare birth h kinds non
   few = few;
   room = room;
 })
+
+two_none : (g b n m : ℕ) → g ≡ 0 → b ≡ 0 → n ≡ m → g + (b + n) ≡ m
+two_none g b n m none none_too same = omega arith
+
+-- no frames are given, and none come back yet; the pages have the same frames
+pub frames_none : (kind : FrameKind) (banks : BankPair) (pages pages' : PageMap) (marks : List Mark) (given back : List Frame) (birth : Birth) (h : List Entry) (whole : Whole) →
+    record { birth = birth; journal = h; banks = banks } ≡ whole → given ≡ [] → back ≡ [] → ((p : ℕ) → PageStands banks (page_at pages p) (mark_at marks p) birth h p) → size_of pages ≡ size birth h →
+    held_by kind pages' ≡ held_by kind pages → of_kind kind (counts_of given back pages') ≡ held whole.birth whole.journal kind
+frames_none kind banks pages pages' marks given back birth h whole is none none_too stand sized same =
+    of_counts kind given back pages'
+    ∙ two_none (count_kind kind given) (count_kind kind back) (held_by kind pages') (held birth h kind) (ap (λ (xs : List Frame). count_kind kind xs) none) (ap (λ (xs : List Frame). count_kind kind xs) none_too)
+    (same ∙ held_is banks pages marks birth h kind stand sized)
+    ∙ ap (λ (v : Whole). held v.birth v.journal kind) is

@@ -9,3 +9,5 @@ pub mod Used
 pub mod Reclaims
 pub mod Contents
 pub mod Dropping
+pub mod Tallying
+pub mod Grown

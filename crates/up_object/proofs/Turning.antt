@@ -18,6 +18,7 @@ use Rattle.up_bank.specs.declared.kind.FrameKind.TheVariants.{Ordinary, Loaned}
 use Rattle.up_pages.specs.Frames.{Stock}
 use Rattle.up_pages.specs.Pages.{PageMap, page_at, size_of, frame_of, bytes_in, overwritten, look_of as look_at, with_state as page_with_state}
 use Rattle.up_model.specs.Looks.{PageLook, Missing, Zeros, Framed, look_of, has_frame, is_present, lacks_own_frame, with_state, pinned_look}
+use Rattle.up_model.specs.Size.{size}
 use Rattle.up_model.specs.Use.{newest_epoch}
 use Rattle.up_model.specs.Changes.{Turns, SamePage, SetsState, Uses, UnpinsOne, Hints, Blanks, Goes, Fills, Reframes, Writes, PinsOne, over_byte, FreshUse}
 use Rattle.up_model.specs.declared.entry.Birth.{Birth}
@@ -62,7 +63,7 @@ turned banks pages pages' marks marks' page mark birth e h done s left puts size
         let now : mark_at marks' p ≡ mark_at marks p = sets p ∙ ap (λ b. cond b mark (mark_at marks p)) q in
         rw (here, now, done_else done.first done.mark p q) (s.each p)
   ] refl;
-  marked = count ∙ s.marked ∙ sym size;
+  marked = let marked = s.marked in omega arith;
   order = let low = s.order in omega arith;
   ends = omega arith;
   fits = let fits = s.fits in omega arith;
@@ -225,6 +226,7 @@ steps banks pages pages' marks marks' brings given given' back back' rest birth 
   legal = s.legal;
   kinds = s.kinds;
   sized = same ∙ s.sized;
+  grown = subst (λ (n : ℕ). size birth h ≤ n) (sym same) s.grown;
   part = part;
   stock = stock;
   others = subst (λ (n : ℕ). RestStands rest n birth e h (next_done done)) (sym same) (rest_next rest (size_of pages) birth e h done s.others);

@@ -21,7 +21,7 @@ use Rattle.up_object.specs.Whole.{Whole}
 use Rattle.up_object.specs.Asks.{AskRoom, AsksStandFor}
 use Rattle.up_object.specs.Stands.{Tally, TallyStands, seat, reserved, leaves_after}
 
--- how far a call has come: its pages are those from `first` up to `limit`, and those below `mark` are done
+-- how far a call has come: its pages are those from `first` up to `limit`, and those below `mark` are done; then what else is done
 pub record Done : Type 0 where
   pub first : ℕ
   pub mark : ℕ
@@ -29,6 +29,7 @@ pub record Done : Type 0 where
   pub asks : Bool
   pub spent : Bool
   pub tally : Bool
+  pub size : Bool
 
 -- how many frames there are of each kind
 pub record Counts : Type 0 where
@@ -81,7 +82,7 @@ next_using uses change = record change { done = next_done change.done; given = c
 -- each page stands for the journal before the entry, or with it where it is done
 pub record PagesStand (banks : BankPair) (pages : PageMap) (marks : List Mark) (birth : Birth) (e : Entry) (h : List Entry) (done : Done) : Type 0 where
   pub each : (p : ℕ) → PageStands banks (page_at pages p) (mark_at marks p) birth (up_to (is_done done p) e h) p
-  pub marked : length marks ≡ size_of pages
+  pub marked : size_of pages ≤ length marks
   pub order : done.first ≤ done.mark
   pub ends : done.mark ≤ done.limit
   pub fits : done.limit ≤ size_of pages
@@ -133,7 +134,8 @@ pub record ChangeStandsFor (banks : BankPair) (pages : PageMap) (marks : List Ma
     (birth : Birth) (e : Entry) (h : List Entry) (done : Done) : Type 0 where
   pub legal : Legal birth h
   pub kinds : (banks.ordinary.kind ≡ Ordinary) × (banks.loaned.kind ≡ Loaned)
-  pub sized : size_of pages ≡ size birth h
+  pub sized : size_of pages ≡ size birth (up_to done.size e h)
+  pub grown : size birth h ≤ size_of pages
   pub part : PagesStand banks pages marks birth e h done
   pub stock : FramesStand banks brings given back done
   pub others : RestStands rest (size_of pages) birth e h done
@@ -146,9 +148,27 @@ opened whole e brings given first limit frames room = record {
   entry = e;
   banks = whole.banks;
   brings = brings;
-  done = record { first = first; mark = first; limit = limit; asks = false; spent = false; tally = false };
+  done = record { first = first; mark = first; limit = limit; asks = false; spent = false; tally = false; size = false };
   pages = size whole.birth whole.journal;
   given = length given.items;
   frames = frames;
   room = room;
 }
+
+-- all pages below this one are done
+abbrev pub at_mark : ℕ → Change → Change
+at_mark mark change = record change { done = record change.done { mark = mark } }
+
+-- the tally stands for the journal with the entry
+abbrev pub tally_set : Change → Change
+tally_set change = record change { done = record change.done { tally = true } }
+
+-- a call that is given no frames
+abbrev pub no_frames : Stock
+no_frames = record { items = []; room = 0 }
+
+-- an object at the beginning of a call that brings pages, which are absent still
+abbrev pub grown : Whole → Entry → ℕ → Counts → AskRoom → Change
+grown whole e pages frames room =
+    let change = opened whole e Ordinary no_frames (size whole.birth whole.journal) pages frames room in
+    record change { pages = pages; done = record change.done { size = true } }

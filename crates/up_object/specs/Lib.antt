@@ -6,3 +6,4 @@ pub mod Changing
 pub mod Whole
 pub mod Object
 pub mod Ordering
+pub mod Roles

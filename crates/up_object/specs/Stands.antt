@@ -87,7 +87,7 @@ pub record StandsFor (banks : BankPair) (pages : PageMap) (marks : List Mark) (q
   pub kinds : (banks.ordinary.kind ≡ Ordinary) × (banks.loaned.kind ≡ Loaned)
   pub sized : size_of pages ≡ size birth h
   pub each : (p : ℕ) → PageStands banks (page_at pages p) (mark_at marks p) birth h p
-  pub marked : length marks ≡ size_of pages
+  pub marked : size_of pages ≤ length marks
   pub queued : (p : ℕ) → find_page queue.items p ≡ seat birth h p
   pub wide : size_of pages ≤ queue.room
   pub asks : AsksStand asking birth h

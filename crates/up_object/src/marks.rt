@@ -1,4 +1,4 @@
-ghost use Rattle.std.specs.Prelude.{◌≡◌, ℕ, ◌<◌, ◌==◌, cond, length, IfOk};
+ghost use Rattle.std.specs.Prelude.{◌≡◌, ℕ, ◌+◌, ◌<◌, ◌≤◌, ◌==◌, cond, length, vec_capacity, IfOk, OnOk};
 ghost use Rattle.up_object.specs.Parts.{no_mark, mark_at};
 
 use std::alloc::Global;
@@ -68,6 +68,22 @@ impl Marks {
         Ok(Marks { items })
     }
 
+    /// Makes places for so many pages. New marks are none.
+    pub fn grow(&mut self, pages: u32) -> Result<(), Memory>
+        ensures size { OnOk result (pages ≤ length self.new) }
+        ensures none { (p : ℕ) → mark_at self.new p ≡ mark_at self.old p }
+        ensures longer { length self.old ≤ length self.new }
+    {
+        let count = self.items.len();
+        let wanted = pages as usize;
+        if wanted <= count {
+            return Ok(());
+        }
+        self.items.reserve(wanted - count)?;
+        add_none(&mut self.items, wanted - count);
+        Ok(())
+    }
+
     /// The mark of a page of any number.
     pub fn at(&self, page: u32) -> Mark
         ensures { result ≡ mark_at self.now page }
@@ -85,5 +101,16 @@ impl Marks {
         ensures size { length self.new ≡ length self.old }
     {
         self.items[page as usize] = mark;
+    }
+}
+
+/// Appends marks that are none, for which there is room.
+fn add_none(items: &mut Vec<Mark>, more: usize)
+    requires { length items.old.items + more ≤ vec_capacity items.old }
+    ensures size { length items.new.items ≡ length items.old.items + more }
+    ensures none { (p : ℕ) → mark_at items.new.items p ≡ mark_at items.old.items p }
+{
+    for _place in 0..more {
+        items.push_reserved(Mark::none());
     }
 }

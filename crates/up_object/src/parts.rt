@@ -52,6 +52,7 @@ pub struct Changing {
     pub(crate) asks_done: bool,
     pub(crate) spent_done: bool,
     pub(crate) tally_done: bool,
+    pub(crate) size_done: bool,
 }
 
 impl Model for Changing {
@@ -70,7 +71,7 @@ impl Model for Changing {
       entry = o.entry;
       banks = o.banks;
       brings = o.brings;
-      done = record { first = o.first; mark = o.mark; limit = o.limit; asks = o.asks_done; spent = o.spent_done; tally = o.tally_done };
+      done = record { first = o.first; mark = o.mark; limit = o.limit; asks = o.asks_done; spent = o.spent_done; tally = o.tally_done; size = o.size_done };
       pages = size_of o.pages;
       given = length o.given.items;
       frames = counts_of o.given.items o.back.items o.pages;
@@ -327,7 +328,7 @@ impl Changing {
         requires asks { self.done.asks ≡ false → keeps_asks self.entry ≡ true }
         requires spent { self.done.spent ≡ false → keeps_spent self.entry ≡ true }
         requires tally { self.done.tally ≡ false → (keeps_roles self.entry && keeps_modified self.entry) ≡ true }
-        requires size { keeps_size self.entry ≡ true }
+        requires size { self.done.size ≡ false → keeps_size self.entry ≡ true }
         requires due { IsDue self.birth self.entry self.journal }
         ensures object { result.0 ≡ record { birth = self.birth; journal = self.entry ∷ self.journal; banks = self.banks } }
         ensures frames { (kind : FrameKindValue) → count_kind kind result.1.items + held self.birth (self.entry ∷ self.journal) kind ≡ of_kind kind self.frames }
@@ -354,6 +355,7 @@ impl Changing {
             asks_done: _,
             spent_done: _,
             tally_done: _,
+            size_done: _,
         } = self;
         settle(&pages, &marks, &asks, &mut queues, from, to);
         hand_over(given, &mut back);
@@ -523,6 +525,7 @@ pub fn open_asking(
             asks_done: false,
             spent_done: false,
             tally_done: false,
+            size_done: false,
         }),
         Err(memory) => {
             back.end();

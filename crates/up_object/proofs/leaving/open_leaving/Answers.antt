@@ -1,0 +1,26 @@
+use Rattle.std.proofs.Common.{◌≡◌, ℕ, ◌+◌, ◌≤◌, sym, subst, refl, ap, ◌∙◌, arith}
+use Rattle.up_bank.specs.Standing.{Held as Frame}
+use Rattle.up_pages.specs.Frames.{count_kind}
+use Rattle.up_model.specs.declared.entry.Call.{Call}
+use Rattle.up_object.specs.Change.{AllAre, of_kind, counts_of}
+use Rattle.up_object.specs.Parts.{bank_of}
+use Rattle.up_object.specs.Whole.{Whole, held}
+use Rattle.up_object.specs.Stands.{leave_calls}
+use Rattle.up_object.proofs.Ending.{begins, frames_none}
+use Rattle.up_object.proofs.Tallying.{leave_fits, leaves_over, empty_are, no_room, same_asks}
+use Rattle.up_object.proofs.leaving.open_leaving.Goals as goal
+
+pub invariant_of-result : goal.invariant_of-result
+invariant_of-result c = let s = c.object.invariant in
+    begins _ c.object.inside.pages c.object.inside.pages _ _ c.object.inside.asks c.object.inside.asks _ _ _ c.object.inside.log.spare _ _ c.object.inside.log.entries _ _ _ _ _ _ _ s c.room_to_leave.ensures.entries (λ p. refl) refl (same_asks c.object.inside.asks)
+    (omega arith) (omega arith) (empty_are _ _ c.new-given.ensures.empty) c.new-back.ensures.empty (no_room _ _ _ c.new-back.ensures.empty c.new-given.ensures.empty) (omega arith)
+    (leave_fits c.args.entry.call c.object.inside.leaves c.object.inside.log.spare _ c.requires.leaves s.room c.room_to_leave.ensures.spare c.in-Ok.ensures.enough)
+
+pub returns-in-Ok-clause-frames : goal.returns-in-Ok-clause-frames
+returns-in-Ok-clause-frames c = λ kind. let s = c.object.invariant in
+    frames_none kind _ c.object.inside.pages c.object.inside.pages c.object.inside.marks _ _ _ _ _ c.object.view_is c.new-given.ensures.empty c.new-back.ensures.empty s.each s.sized refl
+
+pub returns-in-Err-clause-late : goal.returns-in-Err-clause-late
+returns-in-Err-clause-late c = let s = c.object.invariant in
+    subst (λ (v : Whole). v.birth.users + v.birth.pagers ≤ leave_calls v.journal) c.object.view_is
+    (leaves_over _ _ _ s.leaving c.in-Err.ensures.late)

@@ -1,0 +1,14 @@
+use Rattle.std.proofs.Common.{◌≡◌, ℕ, ◌<◌, sym, subst, refl, ap, ◌∙◌, arith, ◌++◌}
+use Rattle.std.specs.Prelude.{option_to_list}
+use Rattle.up_model.specs.Changes as changes
+use Rattle.up_object.specs.Change.{Change}
+use Rattle.up_pages.specs.Pages.{page_at}
+use Rattle.up_object.proofs.Turning.{turned, at_mark, stock_back, steps}
+use Rattle.up_object.proofs.Grown.{vanishes_page}
+use Rattle.up_object.proofs.parts.Changing.vanish.Goals as goal
+
+pub invariant_of-self : goal.invariant_of-self
+invariant_of-self c = steps _ _ c.take-displaced.new.self _ _ _ _ _ _ _ _ _ _ _ _ c.self.invariant c.take-displaced.ensures.size
+    (turned _ _ c.take-displaced.new.self _ _ _ _ _ _ _ _ c.self.invariant.part (subst (λ (v : Change). v.done.mark < v.done.limit) (sym c.self.view_is) c.requires.left) c.take-displaced.ensures.pages c.take-displaced.ensures.size (omega arith) c.set.ensures.pages c.set.ensures.size
+    (vanishes_page _ _ _ _ _ _ (subst (λ (v : Change). changes.Vanishes v.birth v.entry v.journal v.done.mark) (sym c.self.view_is) c.requires.gone) c.none-mark.ensures))
+    (stock_back _ _ _ _ _ _ (page_at c.self.inside.pages c.self.inside.mark) c.self.invariant.stock (at_mark _ _ _ _ _ _ _ c.self.invariant.part).owned (c.put_some.ensures.items ∙ ap (λ o. c.self.inside.back.items ++ option_to_list o) c.take-displaced.ensures.back) c.put_some.ensures.room)
