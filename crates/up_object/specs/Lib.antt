@@ -4,3 +4,5 @@ pub mod Change
 pub mod Changing
 pub mod Whole
 pub mod Object
+pub mod Steps
+pub mod Tests

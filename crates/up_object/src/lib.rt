@@ -9,11 +9,15 @@ mod marks;
 mod moves;
 mod object;
 pub mod parts;
+mod ranges;
 mod seating;
+mod step;
 mod tally;
 
 pub use asking::AskMark;
 pub use banks::Banks;
 pub use marks::{Key, Mark};
 pub use object::Object;
+pub use ranges::{count_of, end_of, first_of};
+pub use step::{By, Declined, FramesIn, Step, Stepped, decline, lacking, note_with};
 pub use tally::Tally;
