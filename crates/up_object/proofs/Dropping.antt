@@ -85,7 +85,7 @@ evicted banks pages pages' marks queue queue' asking tally newest newest' leaves
       kinds = s.kinds;
       sized = taken.sized ∙ s.sized ∙ sym (kept_size birth e h takes.size);
       each = pages_left banks pages pages' marks queue queue' birth e h list s.each takes taken;
-      marked = s.marked ∙ sym taken.sized;
+      marked = let marked = s.marked in let sized = taken.sized in omega arith;
       queued = λ p. taken.finds p ∙ seat_left birth e h p (has_page list p) (find_page queue.items p) (s.queued p) (same.pages DirtyAsk p) (takes.goes p) (takes.rests p);
       wide = let wide = s.wide in let sized = taken.sized in let room = taken.room in omega arith;
       asks = asks_end asking birth e h false false s.asks (λ q. takes.asks) (λ q. takes.spent);

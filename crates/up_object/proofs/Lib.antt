@@ -11,3 +11,6 @@ pub mod Contents
 pub mod Dropping
 pub mod Tallying
 pub mod Grown
+pub mod PageSteps
+pub mod Looking
+pub mod Ranged

@@ -7,3 +7,5 @@ pub mod Whole
 pub mod Object
 pub mod Ordering
 pub mod Roles
+pub mod Steps
+pub mod Tests
