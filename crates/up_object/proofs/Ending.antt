@@ -236,7 +236,7 @@ unopened banks pages pages' marks queue asking asking' tally newest leaves spare
   kinds = s.kinds;
   sized = sized ∙ s.sized;
   each = λ p. rw (puts p) (s.each p);
-  marked = s.marked ∙ sym sized;
+  marked = subst (λ (n : ℕ). n ≤ length marks) (sym sized) s.marked;
   queued = s.queued;
   wide = subst (λ (n : ℕ). n ≤ queue.room) (sym sized) s.wide;
   asks = roomy_asks asking asking' birth h h s.asks roomy;

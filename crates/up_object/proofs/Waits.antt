@@ -355,6 +355,7 @@ answered banks pages marks brings given back rest asks birth e h done asks_done 
   legal = s.legal;
   kinds = s.kinds;
   sized = s.sized;
+  grown = s.grown;
   part = record { each = s.part.each; marked = s.part.marked; order = s.part.order; ends = s.part.ends; fits = s.part.fits; ready = s.part.ready };
   stock = record { given_own = s.stock.given_own; back_own = s.stock.back_own; room = s.stock.room };
   others = record {
