@@ -1,0 +1,6 @@
+//! The steps of the sample pager, and what they answer.
+#![tactic(auto)]
+
+mod step;
+
+pub use step::{ClaimNo, SiteReply, SiteStep};
