@@ -2,5 +2,8 @@ pub mod Lines
 pub mod EntryForms
 pub mod Again
 pub mod Takes
+pub mod OneBytes
+pub mod OneDeed
+pub mod OneLine
 pub mod Prefixes
 pub mod Sound

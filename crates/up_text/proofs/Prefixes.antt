@@ -1,5 +1,5 @@
--- No text of journals begins another: the line done stands last in each, and nowhere else.
-use Rattle.std.proofs.Common.{◌≡◌, ℕ, ◌+◌, ◌^◌, ◌<◌, ◌≤◌, Bool, true, false, not, List, [], ◌∷◌, ◌++◌, length, get_or, refl, sym, ap, ◌∙◌, append_assoc, append-nil, arith}
+-- No text of journals begins another's: the line done stands last in each, and nowhere else, and lines that are the same say the same.
+use Rattle.std.proofs.Common.{◌≡◌, ℕ, ◌+◌, ◌^◌, ◌<◌, ◌≤◌, Bool, true, false, not, List, [], ◌∷◌, ◌++◌, length, get_or, refl, sym, ap, ap₂, ◌∙◌, append_assoc, append-nil, arith}
 use Rattle.std.specs.Fmt.{decimal}
 use Rattle.std.specs.Prelude.{codes}
 use Rattle.std.specs.List.{list_all, flat_map, join_with_byte}
@@ -7,24 +7,24 @@ use Rattle.std.specs.Str.{bytes_eq}
 use Rattle.std.proofs.lemmas.Bool.{and_parts}
 use Rattle.std.proofs.lemmas.Fmt.{decimal_nonempty}
 use Rattle.std.proofs.lemmas.Slice.Eq.{bytes_eq-Decides}
-use Rattle.std.proofs.lemmas.List.Folds.{list_all-append}
 use Rattle.std.proofs.lemmas.List.Concat.{flat_map-cons}
 use Rattle.std.proofs.lemmas.List.Splits.{join_with_byte-slice_split}
+use Rattle.up_model.specs.declared.entry.Birth.{Birth}
 use Rattle.up_model.specs.declared.entry.Entry.{Entry}
 use Rattle.up_words.specs.Words.{split}
-use Rattle.up_words.proofs.Decimals.{both}
 use Rattle.up_fields.specs.Limits.{all_tickets}
 use Rattle.up_fields.specs.Text.{spaced, line_of, line_text}
 use Rattle.up_calls.specs.Text.{call_words}
 use Rattle.up_replies.specs.Text.{reply_words}
 use Rattle.up_text.specs.Text.{entry_words, birth_words, entries_text, end_words, journal_text, text}
-use Rattle.up_text.specs.Allowed.{entry_allowed, journal_allowed, are_new, are_allowed}
+use Rattle.up_text.specs.Allowed.{entry_allowed, journal_allowed}
 use Rattle.up_text.specs.Laws.{NoTextBeginsAnother}
 use Rattle.up_text.specs.declared.journals.Named.{Named}
-use Rattle.up_fields.proofs.Values.{other_first, first_digit}
+use Rattle.up_fields.proofs.Values.{first_digit}
 use Rattle.up_fields.proofs.Sentences.{line_free, split_line}
 use Rattle.up_text.proofs.EntryForms.{entry_good, birth_good}
 use Rattle.up_text.proofs.Again.{journal_parts, end_good}
+use Rattle.up_text.proofs.OneLine.{words_one, entry_one, birth_one}
 
 -- the lines of entries, each as its bytes
 entry_lines : ℕ → List Entry → List (List ℕ)
@@ -46,30 +46,6 @@ is_other line = not (bytes_eq line (codes "done"))
 first_of : (front back : List ℕ) → 0 < length front → get_or (front ++ back) 0 0 ≡ get_or front 0 0
 first_of [] back some = absurd (omega arith)
 first_of (byte ∷ front) back some = refl
-
-entry_other : (position : ℕ) (e : Entry) → position < 2 ^ 64 → is_other (line_of (entry_words position e)) ≡ true
-entry_other position e fits =
-    let rest = spaced (decimal e.who ∷ decimal e.epoch ∷ call_words e.call ++ codes "->" ∷ reply_words e.reply) in
-    ap not (other_first (decimal position ++ rest) (codes "done") (λ same. omega (arith, (first_digit position fits).1, sym (first_of (decimal position) rest (decimal_nonempty position fits)) ∙ same)))
-
-entries_other : (position : ℕ) (es : List Entry) → position + length es ≤ all_tickets → list_all is_other (entry_lines position es) ≡ true
-unfolding entry_lines
-entries_other position [] few = refl
-entries_other position (e ∷ es) few = both (is_other (line_of (entry_words position e))) (list_all is_other (entry_lines (position + 1) es)) (entry_other position e (omega (arith, few))) (entries_other (position + 1) es (omega (arith, few)))
-
-journal_other : (journal : Named) → length journal.entries ≤ all_tickets → list_all is_other (journal_lines journal) ≡ true
-unfolding journal_lines
-journal_other journal few =
-    list_all-append is_other (entry_lines 0 journal.entries) (line_of (end_words (length journal.entries)) ∷ [])
-    ∙ both (list_all is_other (entry_lines 0 journal.entries)) true (entries_other 0 journal.entries (omega (arith, few))) refl
-
-all_other : (journals : List Named) → list_all journal_allowed journals ≡ true → list_all is_other (all_lines journals) ≡ true
-unfolding all_lines
-all_other [] a = refl
-all_other (journal ∷ journals) a =
-    let p = and_parts (journal_allowed journal) (list_all journal_allowed journals) a in
-    list_all-append is_other (journal_lines journal) (all_lines journals)
-    ∙ both (list_all is_other (journal_lines journal)) (list_all is_other (all_lines journals)) (journal_other journal (journal_parts journal p.0).few) (all_other journals p.1)
 
 entries_cut : (position : ℕ) (es : List Entry) (rest : List ℕ) → list_all entry_allowed es ≡ true → position + length es ≤ all_tickets → split 10 (entries_text position es ++ rest) ≡ entry_lines position es ++ split 10 rest
 unfolding entry_lines entries_text
@@ -106,14 +82,13 @@ journals_cut (journal ∷ journals) rest a =
     ∙ sym (append_assoc (journal_lines journal) (all_lines journals) (split 10 rest))
 
 -- the lines of a text, and what follows it
-text_cut : (journals : List Named) (rest : List ℕ) → are_allowed journals ≡ true → split 10 (text journals ++ rest) ≡ codes "pagerd-journal 1" ∷ all_lines journals ++ codes "done" ∷ split 10 rest
+text_cut : (journals : List Named) (rest : List ℕ) → list_all journal_allowed journals ≡ true → split 10 (text journals ++ rest) ≡ codes "pagerd-journal 1" ∷ all_lines journals ++ codes "done" ∷ split 10 rest
 text_cut journals rest a =
-    let p = and_parts (list_all journal_allowed journals) (are_new [] journals) a in
     let head = codes "pagerd-journal 1\n" in
     let middle = flat_map journal_text journals in
     ap (split 10) (append_assoc (head ++ middle) (codes "done\n") rest ∙ append_assoc head middle (codes "done\n" ++ rest))
     ∙ split_line (codes "pagerd-journal 1") (middle ++ (codes "done\n" ++ rest)) refl
-    ∙ ap (λ (ls : List (List ℕ)). codes "pagerd-journal 1" ∷ ls) (journals_cut journals (codes "done\n" ++ rest) p.0 ∙ ap (λ (ls : List (List ℕ)). all_lines journals ++ ls) (split_line (codes "done") rest refl))
+    ∙ ap (λ (ls : List (List ℕ)). codes "pagerd-journal 1" ∷ ls) (journals_cut journals (codes "done\n" ++ rest) a ∙ ap (λ (ls : List (List ℕ)). all_lines journals ++ ls) (split_line (codes "done") rest refl))
 
 not_done : (line : List ℕ) → is_other line ≡ true → line ≡ codes "done" → ⊥
 not_done line e same = differ (bytes_eq line (codes "done")) ((bytes_eq-Decides line (codes "done")).1 same) e
@@ -125,23 +100,71 @@ not_done line e same = differ (bytes_eq line (codes "done")) ((bytes_eq-Decides 
 head_is : (a b : List ℕ) (cs ds : List (List ℕ)) → (a ∷ cs) ≡ (b ∷ ds) → (a ≡ b) × (cs ≡ ds)
 head_is a b cs ds e = (cc, cc)
 
--- what stands behind the first line done is the same
-behind_done : (firsts seconds : List (List ℕ)) (x y : List (List ℕ)) → list_all is_other firsts ≡ true → list_all is_other seconds ≡ true → firsts ++ codes "done" ∷ x ≡ seconds ++ codes "done" ∷ y → x ≡ y
-behind_done [] [] x y a b e = (head_is (codes "done") (codes "done") x y e).1
-behind_done [] (second ∷ seconds) x y a b e =
-    absurd (not_done second (and_parts (is_other second) (list_all is_other seconds) b).0 (sym (head_is (codes "done") second x (seconds ++ codes "done" ∷ y) e).0))
-behind_done (first ∷ firsts) [] x y a b e =
-    absurd (not_done first (and_parts (is_other first) (list_all is_other firsts) a).0 (head_is first (codes "done") (firsts ++ codes "done" ∷ x) y e).0)
-behind_done (first ∷ firsts) (second ∷ seconds) x y a b e =
-    behind_done firsts seconds x y (and_parts (is_other first) (list_all is_other firsts) a).1 (and_parts (is_other second) (list_all is_other seconds) b).1
-    (head_is first second (firsts ++ codes "done" ∷ x) (seconds ++ codes "done" ∷ y) e).1
+-- the line that ends a journal is no entry's
+end_entry : (count position : ℕ) (e : Entry) → position < 2 ^ 64 → line_of (end_words count) ≡ line_of (entry_words position e) → ⊥
+end_entry count position e fits same =
+    let rest = spaced (decimal e.who ∷ decimal e.epoch ∷ call_words e.call ++ codes "->" ∷ reply_words e.reply) in
+    let first : 101 ≡ get_or (decimal position) 0 0 = ap (λ line. get_or line 0 0) same ∙ first_of (decimal position) rest (decimal_nonempty position fits) in
+    omega (arith, (first_digit position fits).1, first)
 
--- no text begins another
+-- entries whose lines begin one list of lines, and end there, are the same, and so is what stands behind them
+entries_one : (position : ℕ) (es fs : List Entry) (m n : ℕ) (x y : List (List ℕ)) → list_all entry_allowed es ≡ true → list_all entry_allowed fs ≡ true → position + length es ≤ all_tickets → position + length fs ≤ all_tickets
+    → entry_lines position es ++ line_of (end_words m) ∷ x ≡ entry_lines position fs ++ line_of (end_words n) ∷ y → (es ≡ fs) × (x ≡ y)
+unfolding entry_lines
+entries_one position [] [] m n x y a b few less e = (refl, (head_is (line_of (end_words m)) (line_of (end_words n)) x y e).1)
+entries_one position [] (f ∷ fs) m n x y a b few less e =
+    absurd (end_entry m position f (omega (arith, less)) (head_is (line_of (end_words m)) (line_of (entry_words position f)) x (entry_lines (position + 1) fs ++ line_of (end_words n) ∷ y) e).0)
+entries_one position (d ∷ es) [] m n x y a b few less e =
+    absurd (end_entry n position d (omega (arith, few)) (sym (head_is (line_of (entry_words position d)) (line_of (end_words n)) (entry_lines (position + 1) es ++ line_of (end_words m) ∷ x) y e).0))
+entries_one position (d ∷ es) (f ∷ fs) m n x y a b few less e =
+    let p = and_parts (entry_allowed d) (list_all entry_allowed es) a in
+    let q = and_parts (entry_allowed f) (list_all entry_allowed fs) b in
+    let h = head_is (line_of (entry_words position d)) (line_of (entry_words position f)) (entry_lines (position + 1) es ++ line_of (end_words m) ∷ x) (entry_lines (position + 1) fs ++ line_of (end_words n) ∷ y) e in
+    let words = words_one (entry_words position d) (entry_words position f) (omega arith) (omega arith) (entry_good position d (omega (arith, few)) p.0) (entry_good position f (omega (arith, few)) q.0) h.0 in
+    let more = entries_one (position + 1) es fs m n x y p.1 q.1 (omega (arith, few)) (omega (arith, less)) h.1 in
+    (ap₂ (λ (g : Entry) (gs : List Entry). g ∷ gs) (entry_one position d f p.0 q.0 words) more.0, more.1)
+
+abbrev journal_with : List ℕ → Birth → List Entry → Named
+journal_with name birth entries = record { name = name; birth = birth; entries = entries }
+
+-- a journal whose lines begin one list of lines
+journal_one : (j k : Named) (x y : List (List ℕ)) → journal_allowed j ≡ true → journal_allowed k ≡ true → journal_lines j ++ x ≡ journal_lines k ++ y → (j ≡ k) × (x ≡ y)
+unfolding journal_lines
+journal_one j k x y a b e =
+    let p = journal_parts j a in
+    let q = journal_parts k b in
+    let end = line_of (end_words (length j.entries)) in
+    let stop = line_of (end_words (length k.entries)) in
+    let h = head_is (line_of (birth_words j.name j.birth)) (line_of (birth_words k.name k.birth)) ((entry_lines 0 j.entries ++ end ∷ []) ++ x) ((entry_lines 0 k.entries ++ stop ∷ []) ++ y) e in
+    let words = words_one (birth_words j.name j.birth) (birth_words k.name k.birth) (omega arith) (omega arith) (birth_good j.name j.birth p.name p.birth) (birth_good k.name k.birth q.name q.birth) h.0 in
+    let born = birth_one j.name k.name j.birth k.birth p.birth q.birth words in
+    let tail = sym (append_assoc (entry_lines 0 j.entries) (end ∷ []) x) ∙ h.1 ∙ append_assoc (entry_lines 0 k.entries) (stop ∷ []) y in
+    let entries = entries_one 0 j.entries k.entries (length j.entries) (length k.entries) x y p.entries q.entries (omega (arith, p.few)) (omega (arith, q.few)) tail in
+    (ap₂ (λ n b. journal_with n b j.entries) born.0 born.1 ∙ ap (journal_with k.name k.birth) entries.0, entries.1)
+
+done_journal : (j : Named) → codes "done" ≡ line_of (birth_words j.name j.birth) → ⊥
+done_journal j e = not_done (line_of (birth_words j.name j.birth)) refl (sym e)
+
+-- the journals before the first line done are the same, and so is what stands behind it
+journals_one : (firsts seconds : List Named) (x y : List (List ℕ)) → list_all journal_allowed firsts ≡ true → list_all journal_allowed seconds ≡ true → all_lines firsts ++ codes "done" ∷ x ≡ all_lines seconds ++ codes "done" ∷ y → (firsts ≡ seconds) × (x ≡ y)
+unfolding all_lines journal_lines
+journals_one [] [] x y a b e = (refl, (head_is (codes "done") (codes "done") x y e).1)
+journals_one [] (k ∷ ks) x y a b e =
+    absurd (done_journal k (head_is (codes "done") (line_of (birth_words k.name k.birth)) x (((entry_lines 0 k.entries ++ line_of (end_words (length k.entries)) ∷ []) ++ all_lines ks) ++ codes "done" ∷ y) e).0)
+journals_one (j ∷ js) [] x y a b e =
+    absurd (done_journal j (sym (head_is (line_of (birth_words j.name j.birth)) (codes "done") (((entry_lines 0 j.entries ++ line_of (end_words (length j.entries)) ∷ []) ++ all_lines js) ++ codes "done" ∷ x) y e).0))
+journals_one (j ∷ js) (k ∷ ks) x y a b e =
+    let p = and_parts (journal_allowed j) (list_all journal_allowed js) a in
+    let q = and_parts (journal_allowed k) (list_all journal_allowed ks) b in
+    let cut = sym (append_assoc (journal_lines j) (all_lines js) (codes "done" ∷ x)) ∙ e ∙ append_assoc (journal_lines k) (all_lines ks) (codes "done" ∷ y) in
+    let first = journal_one j k (all_lines js ++ codes "done" ∷ x) (all_lines ks ++ codes "done" ∷ y) p.0 q.0 cut in
+    let more = journals_one js ks x y p.1 q.1 first.1 in
+    (ap₂ (λ (i : Named) (is : List Named). i ∷ is) first.0 more.0, more.1)
+
+-- no text begins another, and lists of one text are one
 pub none_begins : NoTextBeginsAnother
 none_begins first second rest a b e =
-    let p = and_parts (list_all journal_allowed first) (are_new [] first) a in
-    let q = and_parts (list_all journal_allowed second) (are_new [] second) b in
     let whole = sym (text_cut first rest a) ∙ ap (split 10) (e ∙ sym (append-nil (text second))) ∙ text_cut second [] b in
     let tails = (head_is (codes "pagerd-journal 1") (codes "pagerd-journal 1") (all_lines first ++ codes "done" ∷ split 10 rest) (all_lines second ++ codes "done" ∷ split 10 []) whole).1 in
-    let same = behind_done (all_lines first) (all_lines second) (split 10 rest) (split 10 []) (all_other first p.0) (all_other second q.0) tails in
-    sym (join_with_byte-slice_split 10 rest) ∙ ap (join_with_byte 10) same ∙ join_with_byte-slice_split 10 []
+    let same = journals_one first second (split 10 rest) (split 10 []) a b tails in
+    (same.0, sym (join_with_byte-slice_split 10 rest) ∙ ap (join_with_byte 10) same.1 ∙ join_with_byte-slice_split 10 [])

@@ -1,6 +1,7 @@
 -- What reading and writing say of one another.
 use Rattle.std.specs.Prelude.{◌≡◌, ℕ, ◌++◌, true, List, [], Ok}
-use Rattle.up_text.specs.Allowed.{are_allowed, are_within}
+use Rattle.std.specs.List.{list_all}
+use Rattle.up_text.specs.Allowed.{journal_allowed, are_within}
 use Rattle.up_text.specs.Text.{text}
 use Rattle.up_text.specs.Reading.{journals_of}
 use Rattle.up_text.specs.declared.journals.Named.{Named}
@@ -17,6 +18,7 @@ ReadsOnlyItsText = (bytes : List ℕ) (journals : List Named) → journals_of by
 abbrev pub ReadsWithinLimits : Type 0
 ReadsWithinLimits = (bytes : List ℕ) (journals : List Named) → journals_of bytes ≡ Ok journals → are_within journals ≡ true
 
--- where a text begins with the text of some journals, it ends with it too: no text is a prefix of another
+-- Where a text of journals, of whatever length, begins with the text of others, these are the same journals, and nothing is left over. Their numbers,
+-- names and byte lists are such as the grammar has; their names may be the same, and there may be as many of them as one likes.
 abbrev pub NoTextBeginsAnother : Type 0
-NoTextBeginsAnother = (first second : List Named) (rest : List ℕ) → are_allowed first ≡ true → are_allowed second ≡ true → text first ++ rest ≡ text second → rest ≡ []
+NoTextBeginsAnother = (first second : List Named) (rest : List ℕ) → list_all journal_allowed first ≡ true → list_all journal_allowed second ≡ true → text first ++ rest ≡ text second → (first ≡ second) × (rest ≡ [])

@@ -8,7 +8,7 @@ pub fn texts_are_read_as_their_journals()
     ensures within { ReadsWithinLimits }
 {}
 
-/// No text of a list of journals begins another's.
+/// No text of a list of journals begins another's, and lists of journals whose texts are the same are the same.
 pub fn no_text_begins_another()
     ensures { NoTextBeginsAnother }
 {}
