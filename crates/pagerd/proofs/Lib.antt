@@ -5,3 +5,5 @@ pub mod Making
 pub mod Naming
 pub mod Endings
 pub mod Judging
+pub mod Owned
+pub mod Housing

@@ -11,15 +11,23 @@ use Rattle.up_model.specs.declared.entry.Entry.{Entry}
 use Rattle.up_model.specs.declared.entry.Call.TheVariants.{Packet, Supply, Retry}
 use Rattle.up_script.specs.declared.script.Action.{Action}
 use Rattle.up_script.specs.declared.script.Action.TheVariants.{Go, Read, Act}
-use Rattle.up_model.proofs.Bools.{nat_eq_true, nat_eq-same, not_true}
+use Rattle.up_model.proofs.Bools.{nat_eq_true, nat_eq-same}
 use Rattle.up_script.specs.Sound.{is_within, is_sound_call, is_sound_action, is_fair_object, is_sound_object}
 use Rattle.up_script.specs.declared.script.ObjectLine.{ObjectLine}
-use Rattle.up_state.proofs.Lists.{zero_is_no_suc, suc_is_not_zero, same_suc}
 use Rattle.pagerd.specs.Built.{is_built_action, has_limits, is_built_object, is_able_object}
 use Rattle.pagerd.specs.Steps.{Entered, Aimed, of_object, parked_at, parks, is_go, call_of, object_at}
 use Rattle.pagerd.specs.Stage.{Staged, entry_of, parked_after, Acted, EnteredFor}
 use Rattle.pagerd.specs.Standing.{IsParked, Keeps}
 use Rattle.pagerd.specs.declared.steps.Parked.{Parked}
+
+zero_is_no_suc : (t : ℕ) → (0 == suc t) ≡ false
+zero_is_no_suc t = grind (arith, nat_tests)
+
+suc_is_not_zero : (n : ℕ) → (suc n == 0) ≡ false
+suc_is_not_zero n = grind (arith, nat_tests)
+
+same_suc : (m n : ℕ) → (suc m == suc n) ≡ (m == n)
+same_suc m n = grind (arith, nat_tests)
 
 slice_get-set : {X : Type 0} (xs : List X) (k : ℕ) (x : X) (t : ℕ) → k < length xs → slice_get (slice_set xs k x) t ≡ cond (k == t) (Some x) (slice_get xs t)
 slice_get-set [] k x t lt = absurd (omega arith)
@@ -186,17 +194,15 @@ acted_by lives waits done who aim life new w is new_is w_is = rw (new_is, w_is) 
 pub record BirthNeeds (object : ObjectLine) : Type 0 where
   pub page : object.birth.pages ≡ 1
   pub fixed : object.birth.limit ≡ None
-  pub free : object.birth.trap ≡ false
-  pub plain : object.birth.image ≡ false
-  pub users : 0 < object.birth.users
-  pub pagers : 0 < object.birth.pagers
+  pub users : (0 < object.birth.users) × (object.birth.users ≤ 64)
+  pub pagers : (0 < object.birth.pagers) × (object.birth.pagers ≤ 64)
 
 no_limit : (limit : Option ℕ) → not (is_some limit) ≡ true → limit ≡ None
 no_limit None p = refl
 no_limit (Some l) p = absurd cc
 
-one_at_least : (n : ℕ) → is_within 1 64 n ≡ true → 0 < n
-one_at_least n p = let q = and_parts (nat_le 1 n) (nat_le n 64) p in let le : 1 ≤ n = leb-true 1 n q.0 in omega arith
+few_at_least : (n : ℕ) → is_within 1 64 n ≡ true → (0 < n) × (n ≤ 64)
+few_at_least n p = let q = and_parts (nat_le 1 n) (nat_le n 64) p in let le : 1 ≤ n = leb-true 1 n q.0 in (omega arith, leb-true n 64 q.1)
 
 able_needs : (object : ObjectLine) → is_able_object object ≡ true → BirthNeeds object
 able_needs object able =
@@ -210,10 +216,8 @@ able_needs object able =
     record {
       page = nat_eq_true birth.pages 1 limit.0;
       fixed = no_limit birth.limit limit.1;
-      free = not_true birth.trap trap.1;
-      plain = not_true birth.image image.1;
-      users = one_at_least birth.users users.1;
-      pagers = one_at_least birth.pagers sound.1;
+      users = few_at_least birth.users users.1;
+      pagers = few_at_least birth.pagers sound.1;
     }
 
 pub able_at : (objects : List ObjectLine) (k : ℕ) (object : ObjectLine) → list_all is_able_object objects ≡ true → slice_get objects k ≡ Some object → BirthNeeds object

@@ -5,3 +5,6 @@ pub mod Stage
 pub mod Standing
 pub mod Journals
 pub mod Top
+pub mod Homes
+pub mod Pools
+pub mod Housed

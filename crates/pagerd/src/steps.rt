@@ -11,12 +11,12 @@ ghost use Rattle.pagerd.specs.Journals.{AreJournalsOf, MakesJournals, named_from
 ghost use Rattle.pagerd.specs.Steps as steps;
 ghost use Rattle.pagerd.specs.Stage.{Acted, Passed, Began, WentOn, Did, GoneThrough};
 
+use crate::homes::Home;
 use std::alloc::Global;
 use std::marker::Model;
 use up_model::{Call, Entries, Reply};
 use up_num::{Items, Memory, PageNo, Piece};
 use up_script::{Action, Line, ObjectLine, Script};
-use up_state::{Object, packet, retry, supply, touch};
 use up_text::{Journals, Named};
 
 /// Does a script's lines in file order, each as far as its actor comes, and gives the journals of its objects in their order.
@@ -86,7 +86,7 @@ pub struct Parked {
 
 /// A script's objects and actors, in the middle of the script.
 struct Stage {
-    objects: Vec<Object>,
+    objects: Vec<Home>,
     /// Where each actor waits.
     waits: Vec<Option<Parked>>,
     /// Up to which line the lines of each actor are done.
@@ -175,7 +175,7 @@ impl Stage {
         ensures { OnOk result (Acted self.old self.new who (steps.retry_of parked)) }
     {
         let Parked { object, ticket } = parked;
-        let reply = retry(&mut self.objects[object as usize], alloc, who, 0, ticket)?;
+        let reply = self.objects[object as usize].retry(alloc, who, 0, ticket)?;
         self.waits[who as usize] = parked_on(object, ticket_after(&reply, Some(ticket)));
         Ok(())
     }
@@ -260,13 +260,13 @@ fn nobody_waits(alloc: Global, actors: usize) -> Result<Vec<Option<Parked>>, Mem
 }
 
 /// New objects, with no entry yet.
-fn born(alloc: Global, lines: &[ObjectLine]) -> Result<Vec<Object>, Memory>
+fn born(alloc: Global, lines: &[ObjectLine]) -> Result<Vec<Home>, Memory>
     requires { list_all built.is_able_object lines.now ≡ true }
     ensures { IfOk result (λ objects. objects.items ≡ new_lives lines.now) }
 {
     let mut objects = Vec::with_capacity(alloc, lines.len())?;
     for line in lines {
-        match Object::birth(alloc, line.birth) {
+        match Home::birth(alloc, line.birth) {
             Ok(object) => objects.push_reserved(object),
             Err(failed) => {
                 let_go(objects);
@@ -278,7 +278,7 @@ fn born(alloc: Global, lines: &[ObjectLine]) -> Result<Vec<Object>, Memory>
 }
 
 /// Ends all objects, and gives their journals.
-fn end_all(objects: Vec<Object>, room: Vec<Entries>) -> Vec<Entries>
+fn end_all(objects: Vec<Home>, room: Vec<Entries>) -> Vec<Entries>
     requires empty { room.items ≡ [] }
     requires enough { vec_len objects ≤ vec_capacity room }
     ensures { result.items ≡ ends_of objects.items }
@@ -294,7 +294,7 @@ fn end_all(objects: Vec<Object>, room: Vec<Entries>) -> Vec<Entries>
 }
 
 /// Ends all objects, and lets their journals go.
-fn let_go(objects: Vec<Object>) {
+fn let_go(objects: Vec<Home>) {
     let mut rest = objects;
     while let Some(object) = rest.pop() {
         object.end();
@@ -343,7 +343,7 @@ fn object_of(action: &Action) -> u32
 }
 
 /// Makes the call of a line on its object, at epoch 0.
-fn perform(object: &mut Object, alloc: Global, who: u32, action: &Action) -> Result<Reply, Memory>
+fn perform(object: &mut Home, alloc: Global, who: u32, action: &Action) -> Result<Reply, Memory>
     requires limits { built.has_limits action.now ≡ true }
     requires built { built.is_built_action action.now ≡ true }
     requires call { steps.is_go action.now ≡ false }
@@ -361,12 +361,12 @@ fn perform(object: &mut Object, alloc: Global, who: u32, action: &Action) -> Res
                 off: *off,
                 len: *len,
             };
-            touch(object, alloc, who, 0, piece, PageNo((*off / 4096) as u32))
+            object.read(alloc, who, 0, piece, PageNo((*off / 4096) as u32))
         }
         Action::Act {
             object: _,
             call: Call::Packet,
-        } => packet(object, who, 0),
+        } => object.packet(alloc, who, 0),
         Action::Act {
             object: _,
             call: Call::Supply {
@@ -376,7 +376,7 @@ fn perform(object: &mut Object, alloc: Global, who: u32, action: &Action) -> Res
             },
         } => {
             let bytes = bytes.copy(alloc)?;
-            supply(object, alloc, who, 0, *range, bytes)
+            object.supply(alloc, who, 0, *range, bytes)
         }
         _ => unreachable!(),
     }

@@ -8,12 +8,6 @@ birth-requires-clause-page c = (able_at c.args.lines.now c.loop-line.line-index 
 pub birth-requires-clause-fixed : goal.birth-requires-clause-fixed
 birth-requires-clause-fixed c = (able_at c.args.lines.now c.loop-line.line-index c.line-item.result c.requires (get_is c.args.lines.now c.loop-line.line-index c.line-item.result (omega arith) c.line-item.is)).fixed
 
-pub birth-requires-clause-free : goal.birth-requires-clause-free
-birth-requires-clause-free c = (able_at c.args.lines.now c.loop-line.line-index c.line-item.result c.requires (get_is c.args.lines.now c.loop-line.line-index c.line-item.result (omega arith) c.line-item.is)).free
-
-pub birth-requires-clause-plain : goal.birth-requires-clause-plain
-birth-requires-clause-plain c = (able_at c.args.lines.now c.loop-line.line-index c.line-item.result c.requires (get_is c.args.lines.now c.loop-line.line-index c.line-item.result (omega arith) c.line-item.is)).plain
-
 pub birth-requires-clause-users : goal.birth-requires-clause-users
 birth-requires-clause-users c = (able_at c.args.lines.now c.loop-line.line-index c.line-item.result c.requires (get_is c.args.lines.now c.loop-line.line-index c.line-item.result (omega arith) c.line-item.is)).users
 
