@@ -1,0 +1,5 @@
+mod PieceAt
+mod Keeping
+mod Wished
+mod Saying
+mod Telling
