@@ -3,3 +3,4 @@ mod Keeping
 mod Wished
 mod Saying
 mod Telling
+mod Ruling

@@ -145,7 +145,8 @@ Free doing now = is_access doing ≡ true → any_refused now ≡ false
 -- what a wish says, where `aim` is the call under way
 abbrev pub Says : Doing → Option Aim → Option ℕ → List Main → Wish → Type 0
 Says doing aim ticket now (wishes.Act object call) = Made aim ticket object call × Free doing now
-Says doing aim ticket now (wishes.Resize object pages) = (aim ≡ Some (record { object = object; call = calls.Resize pages })) × Free doing now
+Says doing aim ticket now (wishes.Resize object pages) =
+    (aim ≡ Some (record { object = object; call = calls.Resize pages })) × (ticket ≡ None) × Free doing now
 Says doing aim ticket now (wishes.Gather count) = Free doing now
 Says doing aim ticket now wishes.Loan = Free doing now
 Says doing aim ticket now (wishes.Park object) = (is_some ticket ≡ true) × Free doing now
@@ -181,11 +182,15 @@ resize_attempted : (ticket : Option ℕ) (b : Brought) (call : Call) (pages : �
 resize_attempted None b call pages is = resize_is b call pages is
 resize_attempted (Some ticket) b call pages is = absurd cc
 
+resize_holds_none : (ticket : Option ℕ) (b : Brought) (call : Call) (pages : ℕ) → calls.Resize pages ≡ bringing b (attempt ticket call) → ticket ≡ None
+resize_holds_none None b call pages is = refl
+resize_holds_none (Some ticket) b call pages is = absurd cc
+
 says_acted : (doing : Doing) (one : Aim) (ticket : Option ℕ) (b : Brought) (now : List Main) (call : Call) → call ≡ bringing b (attempt ticket one.call)
     → Free doing now → Says doing (Some one) ticket now (act_on one.object call)
 says_acted doing one ticket b now (calls.Resize pages) is free =
     let same = resize_attempted ticket b one.call pages is in
-    (ap (λ call. Some (aim_on one.object call)) same, free)
+    (ap (λ call. Some (aim_on one.object call)) same, resize_holds_none ticket b one.call pages is, free)
 says_acted doing one ticket b now call is free = ((one, b, refl, refl, is), free)
 
 pub says_makes : (doing : Doing) (aim : Option Aim) (ticket : Option ℕ) (b : Brought) (now : List Main) → Free doing now

@@ -26,29 +26,29 @@ use Rattle.up_worker.specs.declared.wish.Wanted.TheVariants as wanted
 use Rattle.up_worker.specs.declared.wish.Wish.{Wish}
 use Rattle.up_worker.specs.declared.wish.Wish.TheVariants as wishes
 
-abbrev acting_at : ℕ → Kind → List ℕ → List ℕ → Doing → ℕ → Option ℕ → Wanted → Acting
+abbrev pub acting_at : ℕ → Kind → List ℕ → List ℕ → Doing → ℕ → Option ℕ → Wanted → Acting
 acting_at who kind objects left doing settled ticket wants =
     record { who = who; kind = kind; objects = objects; left = left; doing = doing; settled = settled; ticket = ticket; wants = wants }
 
 -- The entries so far: those of the line that is done now, which are as many as calls of it are settled, and those of the lines before.
-record State (who : ℕ) (kind : Kind) (objects : List ℕ) (a : Acting) (said : Wish) (all : List Doing) (t : List Entered) : Type 0 where
-  left : List ℕ
-  doing : Doing
-  ticket : Option ℕ
-  wants : Wanted
-  now : List Main
-  old : List Main
-  earlier : List Doing
-  is : a ≡ acting_at who kind objects left doing (length now) ticket wants
-  lines_are : all ≡ doing ∷ earlier
-  mains_are : mains t ≡ now ++ old
-  told : is_told doing ≡ true
-  follows : Follows (calls_of kind objects doing) (is_access doing) now
-  given : GivenBy kind objects earlier old
-  held : (aim : Aim) (tk : ℕ) → slice_get (calls_of kind objects doing) (length now) ≡ Some aim → ticket ≡ Some tk → attempt_at t aim.object tk ≡ Some aim
-  says : Says doing (slice_get (calls_of kind objects doing) (length now)) ticket now said
+pub record State (who : ℕ) (kind : Kind) (objects : List ℕ) (a : Acting) (said : Wish) (all : List Doing) (t : List Entered) : Type 0 where
+  pub left : List ℕ
+  pub doing : Doing
+  pub ticket : Option ℕ
+  pub wants : Wanted
+  pub now : List Main
+  pub old : List Main
+  pub earlier : List Doing
+  pub is : a ≡ acting_at who kind objects left doing (length now) ticket wants
+  pub lines_are : all ≡ doing ∷ earlier
+  pub mains_are : mains t ≡ now ++ old
+  pub told : is_told doing ≡ true
+  pub follows : Follows (calls_of kind objects doing) (is_access doing) now
+  pub given : GivenBy kind objects earlier old
+  pub held : (aim : Aim) (tk : ℕ) → slice_get (calls_of kind objects doing) (length now) ≡ Some aim → ticket ≡ Some tk → attempt_at t aim.object tk ≡ Some aim
+  pub says : Says doing (slice_get (calls_of kind objects doing) (length now)) ticket now said
 
-state_start : (who : ℕ) (kind : Kind) (objects : List ℕ) → State who kind objects (unborn who kind objects) wishes.LineEnd (Idle ∷ []) []
+pub state_start : (who : ℕ) (kind : Kind) (objects : List ℕ) → State who kind objects (unborn who kind objects) wishes.LineEnd (Idle ∷ []) []
 state_start who kind objects = record {
   left = [];
   doing = Idle;
@@ -78,7 +78,7 @@ given_all who kind objects a said all t s is =
     (s.now, s.old, s.mains_are, s.follows, whole_of kind objects s.doing s.ticket s.now said is s.says, s.given)
 
 -- a line is begun
-state_begins : (who : ℕ) (kind : Kind) (objects : List ℕ) (a : Acting) (said : Wish) (all : List Doing) (t : List Entered) (doing : Doing)
+pub state_begins : (who : ℕ) (kind : Kind) (objects : List ℕ) (a : Acting) (said : Wish) (all : List Doing) (t : List Entered) (doing : Doing)
     → State who kind objects a said all t → said ≡ wishes.LineEnd → is_told doing ≡ true
     → State who kind objects (started a doing) (first_wish a doing) (doing ∷ all) t
 state_begins who kind objects a said all t doing s is told =
@@ -367,7 +367,7 @@ done_step who kind objects left doing ticket wants now old earlier all t answer 
     subst (λ h. After who kind objects left doing ticket wants now all t h made) (sym is)
     (state_same who kind objects left doing ticket _ now old earlier all made t _ own lines_are mains_are told follows given held says)
 
-none_own : (who : ℕ) (made : List Entered) → made ≡ [] → OwnEvicts who made
+pub none_own : (who : ℕ) (made : List Entered) → made ≡ [] → OwnEvicts who made
 none_own who made is = subst (OwnEvicts who) (sym is) tt
 
 wish_step : (who : ℕ) (kind : Kind) (objects left : List ℕ) (doing : Doing) (ticket : Option ℕ) (wants : Wanted) (now old : List Main) (earlier : List Doing)
@@ -380,7 +380,7 @@ wish_step : (who : ℕ) (kind : Kind) (objects left : List ℕ) (doing : Doing) 
 wish_step who kind objects left doing ticket wants now old earlier all t (wishes.Act object call) answer made l m o f g h says does =
     act_step who kind objects left doing ticket wants now old earlier all t object call answer made l m o f g h says.0 says.1 does
 wish_step who kind objects left doing ticket wants now old earlier all t (wishes.Resize object pages) answer made l m o f g h says does =
-    resize_step who kind objects left doing ticket wants now old earlier all t object pages answer made l m o f g says.0 says.1 does
+    resize_step who kind objects left doing ticket wants now old earlier all t object pages answer made l m o f g says.0 says.2 does
 wish_step who kind objects left doing ticket wants now old earlier all t (wishes.Gather count) answer made l m o f g h says does =
     gather_step who kind objects left doing ticket wants now old earlier all t answer made l m o f g h says does
 wish_step who kind objects left doing ticket wants now old earlier all t wishes.Loan answer made l m o f g h says does =
@@ -406,7 +406,7 @@ wish_step who kind objects left doing ticket wants now old earlier all t wishes.
 wish_step who kind objects left doing ticket wants now old earlier all t (wishes.Site object step) answer made l m o f g h says does = absurd does
 wish_step who kind objects left doing ticket wants now old earlier all t wishes.LineEnd answer made l m o f g h says does = absurd does
 
-state_hears : (who : ℕ) (kind : Kind) (objects : List ℕ) (a : Acting) (said : Wish) (all : List Doing) (t : List Entered) (answer : Heard) (made : List Entered)
+pub state_hears : (who : ℕ) (kind : Kind) (objects : List ℕ) (a : Acting) (said : Wish) (all : List Doing) (t : List Entered) (answer : Heard) (made : List Entered)
     → State who kind objects a said all t → Carries who said answer made → State who kind objects (next_acting a answer) (next_wish a answer) all (made ++ t)
 state_hears who kind objects a said all t answer made s does =
     subst (λ x. State who kind objects (next_acting x answer) (next_wish x answer) all (made ++ t)) (sym s.is)

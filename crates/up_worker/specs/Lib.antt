@@ -5,4 +5,5 @@ pub mod Placing
 pub mod Acting
 pub mod Laws
 pub mod Lives
+pub mod Rules
 pub mod Viewing

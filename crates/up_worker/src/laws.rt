@@ -2,6 +2,7 @@
 
 ghost use Rattle.up_worker.specs.Laws.{MakesUnderWay, GoesOn, AsksAgain, Retries, GathersAfterNeeds, EndsRefused, LeavesOnce};
 ghost use Rattle.up_worker.specs.Lives.{IsTold};
+ghost use Rattle.up_worker.specs.Rules.{KeepsRules, LeavesNothing};
 
 /// A wish to act makes the call that isn't settled yet, or the retry of the ticket under which it waits.
 pub fn a_wish_makes_the_call_under_way()
@@ -38,4 +39,11 @@ pub fn no_object_is_left_twice()
 /// line's calls in order, an access up to its first refusal. Lines that evict are told otherwise.
 pub fn a_life_is_told_by_its_entries()
     ensures { IsTold }
+{}
+
+/// While a call is pending, an actor's next entry that is no evict is for that call, and while it holds a ticket it is the retry of it. Where a line is
+/// done, nothing is pending and no ticket is held.
+pub fn a_life_keeps_the_rules()
+    ensures rules { KeepsRules }
+    ensures end { LeavesNothing }
 {}
