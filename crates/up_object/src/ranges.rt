@@ -6,13 +6,15 @@ ghost use Rattle.up_model.specs.States as states;
 ghost use Rattle.up_model.specs.Looks as looks;
 ghost use Rattle.up_model.specs.Pages.{first_page, count_pages};
 ghost use Rattle.up_model.specs.Reply as replies;
+ghost use Rattle.up_model.specs.Order as orders;
 ghost use Rattle.up_object.specs.Parts.{shown};
 ghost use Rattle.up_object.specs.Tests.{test_of};
 
 use crate::moves::lacks_own;
 use crate::object::Object;
+use crate::seating::is_spare;
 use up_bank::FrameKind;
-use up_num::{PageNo, PageRange, PageState};
+use up_num::{AskKind, PageNo, PageRange, PageState};
 use up_pages::Look;
 
 /// A test on pages, for which a range is looked through.
@@ -115,6 +117,17 @@ impl Object {
     {
         let _ = self.size();
         lacks_own(self.look(page))
+    }
+
+    /// Whether a page may be evicted.
+    #[tactic(auto, using(crate::proofs::Seats::loose_is))]
+    pub fn is_loose(&self, page: PageNo) -> bool
+        ensures { result ≡ orders.loose self.now.birth self.now.journal page.0 }
+    {
+        is_spare(self.look(page))
+            && self.pins(page) == 0
+            && !self.protected(page)
+            && !self.asked(AskKind::Dirty, page)
     }
 
     fn passes(&self, test: PageTest, page: PageNo) -> bool

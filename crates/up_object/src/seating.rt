@@ -12,7 +12,7 @@ use up_num::{AskKind, PageNo, PageState};
 use up_pages::{Look, PageList};
 use up_queues::Queues;
 
-fn is_spare(look: Look) -> bool
+pub(crate) fn is_spare(look: Look) -> bool
     ensures { result ≡ looks.is_spare (shown look) }
 {
     match look {

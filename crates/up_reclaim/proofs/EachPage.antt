@@ -3,18 +3,21 @@ use Rattle.std.proofs.Common.{◌≡◌, ℕ, ◌+◌, ◌<◌, ◌==◌, not, B
 use Rattle.std.proofs.lemmas.Bool.Decides.{nat_tests}
 use Rattle.up_num.specs.Span.{Span}
 use Rattle.up_model.specs.Attempts.{accepts}
-use Rattle.up_model.specs.Deeds.{is_always}
+use Rattle.up_model.specs.Deeds.{is_always, has_page}
 use Rattle.up_model.specs.Value.{there}
 use Rattle.up_model.specs.Pins.{pins}
 use Rattle.up_model.specs.Reply.{first_in, absent, is_unpinned, is_full_of_pins}
-use Rattle.up_model.specs.Changes.{Hints, PinsOne, UnpinsOne}
+use Rattle.up_model.specs.Changes.{Hints, PinsOne, UnpinsOne, Goes}
+use Rattle.up_model.specs.Concerns.{concerns}
+use Rattle.up_num.specs.declared.pages.PageNo.{PageNo}
+use Rattle.up_model.specs.declared.entry.Reply.TheVariants.{Pages}
 use Rattle.up_model.specs.declared.entry.Birth.{Birth}
 use Rattle.up_model.specs.declared.entry.Brought.{Brought}
-use Rattle.up_model.specs.declared.entry.Call.TheVariants.{Hint, Pin, Unpin}
+use Rattle.up_model.specs.declared.entry.Call.TheVariants.{Hint, Pin, Unpin, Evict}
 use Rattle.up_model.specs.declared.entry.Entry.{Entry}
 use Rattle.up_model.specs.declared.entry.HintKind.{HintKind}
 use Rattle.up_model.proofs.Passed.{none_in}
-use Rattle.up_model.proofs.Touching.{hint_marks, pin_one, unpin_one}
+use Rattle.up_model.proofs.Touching.{hint_marks, pin_one, unpin_one, evict_goes}
 use Rattle.up_object.proofs.Looking.{present_is}
 use Rattle.up_object.proofs.Ranged.{covered_at}
 
@@ -45,3 +48,10 @@ pin_at birth e h range brought mark place c a here few first lt =
     let over = covered_at range mark place first lt in
     pin_one birth e h range brought p c a over
     (present_is birth h p ∙ here_so (there birth h p) (none_in (absent birth h) range p here over)) (few_pins (pins h p) (none_in (is_full_of_pins h) range p few over))
+
+-- an evict that lists these pages
+pub evict_listed : (birth : Birth) (e : Entry) (h : List Entry) (limit most : ℕ) (pages : List PageNo) (p : ℕ) → e.call ≡ Evict limit most → e.reply ≡ Pages pages → has_page pages p ≡ true → Goes birth e h p
+evict_listed birth e h limit most pages p c r listed = evict_goes birth e h limit most p c (rw (c, r) listed)
+
+pub evict_spares : (birth : Birth) (e : Entry) (h : List Entry) (limit most : ℕ) (pages : List PageNo) (p : ℕ) → e.call ≡ Evict limit most → e.reply ≡ Pages pages → has_page pages p ≡ false → concerns birth h e p ≡ false
+evict_spares birth e h limit most pages p c r unlisted = rw (c, r) unlisted

@@ -1,2 +1,4 @@
-pub mod Loans
 pub mod EachPage
+pub mod Lending
+pub mod Listed
+pub mod Vacated

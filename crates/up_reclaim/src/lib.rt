@@ -2,11 +2,16 @@
 #![tactic(auto)]
 
 mod borrowing;
+mod evicting;
 mod hinting;
+mod loans;
 mod pinning;
 mod unpinning;
+mod vacating;
 
 pub use borrowing::borrow;
+pub use evicting::evict;
 pub use hinting::hint;
 pub use pinning::pin;
 pub use unpinning::unpin;
+pub use vacating::vacate;

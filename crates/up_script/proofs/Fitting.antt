@@ -60,16 +60,16 @@ either : {Y : Type 0} (test : Bool) (x y r : Y) → cond test x y ≡ r → ((te
 either true x y r e = inl (refl, e)
 either false x y r e = inr (refl, e)
 
-no_word : {Y : Type 0} (reason : Why) (y : Y) → ◌≡◌ {A = Result Y Why} (Err reason) (Ok y) → ⊥
+pub no_word : {Y : Type 0} (reason : Why) (y : Y) → ◌≡◌ {A = Result Y Why} (Err reason) (Ok y) → ⊥
 no_word reason y e = cc
 
 -- neither of two
-or_none : (a b : Bool) → (a || b) ≡ false → (a ≡ false) × (b ≡ false)
+pub or_none : (a b : Bool) → (a || b) ≡ false → (a ≡ false) × (b ≡ false)
 or_none true b e = absurd cc
 or_none false b e = (refl, e)
 
 -- a number that was read lies between its bounds
-number_within : (low high n : ℕ) (word : List ℕ) → high < 2 ^ 64 → number_between low high word ≡ Ok n → (low ≤ n) × (n ≤ high)
+pub number_within : (low high n : ℕ) (word : List ℕ) → high < 2 ^ 64 → number_between low high word ≡ Ok n → (low ≤ n) × (n ≤ high)
 number_within low high n word fits e =
     let a = found_ok why.Number (number high word) _ n e in
     let b = then_ok why.Number (leb low a.0) _ n a.2 in
@@ -85,11 +85,11 @@ unlike_push same (y ∷ ys) x all new =
     let none : list_any (same y) (ys ++ x ∷ []) ≡ false = list_any-append (same y) ys (x ∷ []) ∙ rw (not-true (list_any (same y) ys) p.0, q.0) refl in
     both (not (list_any (same y) (ys ++ x ∷ []))) (are_unlike same (ys ++ x ∷ [])) (ap not none) (unlike_push same ys x p.1 q.1)
 
-any_map : {X Y : Type 0} (p : Y → Bool) (f : X → Y) (xs : List X) → list_any p (map f xs) ≡ list_any (λ x. p (f x)) xs
+pub any_map : {X Y : Type 0} (p : Y → Bool) (f : X → Y) (xs : List X) → list_any p (map f xs) ≡ list_any (λ x. p (f x)) xs
 any_map p f [] = refl
 any_map p f (x ∷ xs) = ap (λ b. p (f x) || b) (any_map p f xs)
 
-all_weaker : {X : Type 0} (p q : X → Bool) (xs : List X) → ((x : X) → p x ≡ true → q x ≡ true) → list_all p xs ≡ true → list_all q xs ≡ true
+pub all_weaker : {X : Type 0} (p q : X → Bool) (xs : List X) → ((x : X) → p x ≡ true → q x ≡ true) → list_all p xs ≡ true → list_all q xs ≡ true
 all_weaker p q [] weaker all = refl
 all_weaker p q (x ∷ xs) weaker all =
     let a = and_parts (p x) (list_all p xs) all in
@@ -118,7 +118,7 @@ abbrev is_acted : Last → Bool
 is_acted last.Actor = true
 is_acted _ = false
 
-record Declares (declared : Declared) : Type 0 where
+pub record Declares (declared : Declared) : Type 0 where
   pub frames : is_first declared.last ≡ false → are_fit_frames declared.stock.frames declared.stock.loan declared.stock.warn declared.stock.critical ≡ true
   pub none : is_acted declared.last ≡ false → declared.actors ≡ []
   pub names : are_unlike bytes_eq (names_of declared.objects declared.actors) ≡ true
@@ -162,14 +162,14 @@ first_none last.Actor e = absurd cc
 fit_frames : (frames loan warn critical : ℕ) → 1 ≤ frames → frames ≤ 16384 → loan ≤ 4096 → warn ≤ frames → critical ≤ warn → are_fit_frames frames loan warn critical ≡ true
 fit_frames frames loan warn critical a b c d e = rw (le-leb 1 frames a, le-leb frames 16384 b, le-leb loan 4096 c, le-leb warn frames d, le-leb critical warn e) refl
 
-record FitFrames (frames loan warn critical : ℕ) : Type 0 where
+pub record FitFrames (frames loan warn critical : ℕ) : Type 0 where
   pub some : 1 ≤ frames
   pub few : frames ≤ 16384
   pub loaned : loan ≤ 4096
   pub warned : warn ≤ frames
   pub lower : critical ≤ warn
 
-fits_frames : (frames loan warn critical : ℕ) → are_fit_frames frames loan warn critical ≡ true → FitFrames frames loan warn critical
+pub fits_frames : (frames loan warn critical : ℕ) → are_fit_frames frames loan warn critical ≡ true → FitFrames frames loan warn critical
 fits_frames frames loan warn critical e =
     let p = and_parts (is_within 1 16384 frames) (leb loan 4096 && (leb warn frames && leb critical warn)) e in
     let q = and_parts (leb 1 frames) (leb frames 16384) p.0 in
@@ -265,7 +265,7 @@ names_actor objects actors actor =
     let first = map (λ (o : ObjectLine). o.name) objects in
     ap (λ names. first ++ names) (map-append f actors (actor ∷ [])) ∙ sym (append_assoc first (map f actors) (actor.name ∷ []))
 
-images_push : (objects : List ObjectLine) (object : ObjectLine) → images_of (objects ++ object ∷ []) ≡ images_of objects ++ name_in object.image
+pub images_push : (objects : List ObjectLine) (object : ObjectLine) → images_of (objects ++ object ∷ []) ≡ images_of objects ++ name_in object.image
 unfolding images_of
 images_push [] object = append-nil (name_in object.image)
 images_push (o ∷ os) object = ap (λ names. name_in o.image ++ names) (images_push os object) ∙ sym (append_assoc (name_in o.image) (images_of os) (name_in object.image))
@@ -339,7 +339,7 @@ actor_more declared t actor d later new fit e =
       actors = all_push (is_fit_actor declared.objects) declared.actors actor d.actors fit;
     })
 
-abbrev same_number : ℕ → ℕ → Bool
+abbrev pub same_number : ℕ → ℕ → Bool
 same_number one other = eqb one other
 
 -- the objects that an actor acts on so far
@@ -442,11 +442,11 @@ declaration_step line declared t words d e =
     (either (verb_is words 0 (codes "frames") 2 && is_first l) _ _ (Ok t) e)
 
 -- objects with the counts of their users and pagers
-abbrev counted_from : List ActorLine → ℕ → List ObjectLine → List ObjectLine
+abbrev pub counted_from : List ActorLine → ℕ → List ObjectLine → List ObjectLine
 counted_from actors n [] = []
 counted_from actors n (object ∷ objects) = with_counts actors n object ∷ counted_from actors (suc n) objects
 
-count_steps : (actors : List ActorLine) (done objects : List ObjectLine) → fold (count_step actors) done objects ≡ done ++ counted_from actors (length done) objects
+pub count_steps : (actors : List ActorLine) (done objects : List ObjectLine) → fold (count_step actors) done objects ≡ done ++ counted_from actors (length done) objects
 count_steps actors done [] = sym (append-nil done)
 count_steps actors done (object ∷ objects) =
     let one = with_counts actors (length done) object in
@@ -454,7 +454,7 @@ count_steps actors done (object ∷ objects) =
     ∙ ap (λ n. (done ++ one ∷ []) ++ counted_from actors n objects) (one_longer done one)
     ∙ append_assoc done (one ∷ []) (counted_from actors (suc (length done)) objects)
 
-counted_names : (actors : List ActorLine) (n : ℕ) (objects : List ObjectLine) → map (λ (o : ObjectLine). o.name) (counted_from actors n objects) ≡ map (λ (o : ObjectLine). o.name) objects
+pub counted_names : (actors : List ActorLine) (n : ℕ) (objects : List ObjectLine) → map (λ (o : ObjectLine). o.name) (counted_from actors n objects) ≡ map (λ (o : ObjectLine). o.name) objects
 counted_names actors n [] = refl
 counted_names actors n (o ∷ os) = ap (λ names. o.name ∷ names) (counted_names actors (suc n) os)
 
@@ -477,22 +477,22 @@ counted_has actors n (o ∷ os) zero = refl
 counted_has actors n (o ∷ os) (suc place) = counted_has actors (suc n) os place
 
 -- tests that give the same
-all_same : {X : Type 0} (p q : X → Bool) (xs : List X) → ((x : X) → p x ≡ q x) → list_all p xs ≡ list_all q xs
+pub all_same : {X : Type 0} (p q : X → Bool) (xs : List X) → ((x : X) → p x ≡ q x) → list_all p xs ≡ list_all q xs
 all_same p q [] same = refl
 all_same p q (x ∷ xs) same = ap₂ (λ a b. a && b) (same x) (all_same p q xs same)
 
 -- objects that look alike to actors
-record Alike (objects others : List ObjectLine) : Type 0 where
+pub record Alike (objects others : List ObjectLine) : Type 0 where
   pub long : length objects ≡ length others
   pub image : (place : ℕ) → has_image objects place ≡ has_image others place
 
-serves_alike : (objects others : List ObjectLine) (kind : Kind) (place : ℕ) → Alike objects others → may_serve kind objects place ≡ may_serve kind others place
+pub serves_alike : (objects others : List ObjectLine) (kind : Kind) (place : ℕ) → Alike objects others → may_serve kind objects place ≡ may_serve kind others place
 serves_alike objects others User place a = refl
 serves_alike objects others Pager place a = ap not (a.image place)
 serves_alike objects others Worker place a = a.image place
 serves_alike objects others Evictor place a = refl
 
-actor_alike : (objects others : List ObjectLine) (actor : ActorLine) → Alike objects others → is_fit_actor objects actor ≡ is_fit_actor others actor
+pub actor_alike : (objects others : List ObjectLine) (actor : ActorLine) → Alike objects others → is_fit_actor objects actor ≡ is_fit_actor others actor
 actor_alike objects others actor a =
     let serves = all_same (may_serve actor.kind objects) (may_serve actor.kind others) actor.objects (λ place. serves_alike objects others actor.kind place a) in
     ap₂ (λ n s. is_name actor.name && (list_all (λ o. ltb o n) actor.objects && (are_unlike same_number actor.objects && s))) a.long serves
@@ -501,7 +501,7 @@ actor_alike objects others actor a =
 abbrev line_bytes : Line → ℕ
 line_bytes line = bytes_of line.action
 
-record Plays (declared : Declared) (played : Played) : Type 0 where
+pub record Plays (declared : Declared) (played : Played) : Type 0 where
   pub frames : are_fit_frames declared.stock.frames declared.stock.loan declared.stock.warn declared.stock.critical ≡ true
   pub names : are_unlike bytes_eq (names_of declared.objects declared.actors) ≡ true
   pub images : are_unlike bytes_eq (images_of declared.objects) ≡ true
@@ -557,12 +557,12 @@ act_step number declared played t words p e =
     })
 
 -- a stage keeps what every script keeps
-abbrev Keeps : Stage → Type 0
+abbrev pub Keeps : Stage → Type 0
 Keeps stages.Header = Unit {0}
 Keeps (stages.Declaring declared) = Declares declared
 Keeps (stages.Acting declared played) = Plays declared played
 
-nothing_declares : Declares nothing_declared
+pub nothing_declares : Declares nothing_declared
 unfolding are_unlike images_of
 nothing_declares = record { frames = λ q. absurd cc; none = λ _. refl; names = refl; images = refl; imaged = refl; actors = refl }
 
@@ -600,7 +600,7 @@ content_keeps number stages.Header t line k e =
 content_keeps number (stages.Declaring declared) t line k e = spoken number (stages.Declaring declared) t line k e
 content_keeps number (stages.Acting declared played) t line k e = spoken number (stages.Acting declared played) t line k e
 
-line_keeps : (number : ℕ) (s t : Stage) (line : List ℕ) → Keeps s → line_step number s line ≡ Ok t → Keeps t
+pub line_keeps : (number : ℕ) (s t : Stage) (line : List ℕ) → Keeps s → line_step number s line ≡ Ok t → Keeps t
 line_keeps number s t line k e =
     let short = then_ok why.Long (leb (length line) 4096) _ t e in
     let few = then_ok why.Limit (leb number 65536) _ t short.1 in
@@ -626,11 +626,11 @@ last_keeps number s (byte ∷ bytes) script k e =
     let few = then_ok why.Limit (leb number 65536) _ script short.1 in
     absurd (no_word why.Cut script few.1)
 
-ok_line : {X : Type 0} (n : ℕ) (r : Result X Why) (x : X) → at_line n r ≡ Ok x → r ≡ Ok x
+pub ok_line : {X : Type 0} (n : ℕ) (r : Result X Why) (x : X) → at_line n r ≡ Ok x → r ≡ Ok x
 ok_line n (Ok y) x e = cc
 ok_line n (Err reason) x e = absurd cc
 
-bind_line : {X Y : Type 0} (r : Result X Fault) (next : X → Result Y Fault) (y : Y) → (r >>= next) ≡ Ok y → (x : X) × (r ≡ Ok x) × (next x ≡ Ok y)
+pub bind_line : {X Y : Type 0} (r : Result X Fault) (next : X → Result Y Fault) (y : Y) → (r >>= next) ≡ Ok y → (x : X) × (r ≡ Ok x) × (next x ≡ Ok y)
 bind_line (Ok x) next y e = (x, refl, e)
 bind_line (Err fault) next y e = absurd cc
 
@@ -642,7 +642,7 @@ lines_keep n s (line ∷ next ∷ lines) script k e =
     let step = bind_line (at_line n (line_step n s line)) _ script e in
     lines_keep (n + 1) step.0 (next ∷ lines) script (line_keeps n s step.0 line k (ok_line n (line_step n s line) step.0 step.1)) step.2
 
-too_long : (script : Script) → ◌≡◌ {A = Result Script Fault} (Err (record { line = 0; why = why.Long })) (Ok script) → ⊥
+pub too_long : (script : Script) → ◌≡◌ {A = Result Script Fault} (Err (record { line = 0; why = why.Long })) (Ok script) → ⊥
 too_long script e = cc
 
 pub fitting : SpellsFitting

@@ -2,3 +2,11 @@ pub mod Counts
 pub mod Doing
 pub mod Faults
 pub mod Fitting
+pub mod OwnActions
+pub mod OwnBack
+pub mod OwnGood
+pub mod OwnNames
+pub mod OwnText
+pub mod OwnWhole
+pub mod OwnWords
+pub mod Spelling

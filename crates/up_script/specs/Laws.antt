@@ -1,16 +1,45 @@
 -- Laws of reading a script.
-use Rattle.std.specs.Prelude.{◌≡◌, ℕ, ◌+◌, ◌≤◌, ◌<◌, ◌⊎◌, List, [], ◌∷◌, ◌++◌, Ok, Err, length}
-use Rattle.up_words.specs.Words.{split}
+use Rattle.std.specs.Prelude.{◌≡◌, ℕ, ◌+◌, ◌≤◌, ◌<◌, ◌⊎◌, true, List, [], ◌∷◌, ◌++◌, Some, Ok, Err, length}
+use Rattle.std.specs.Str.{bytes_eq}
+use Rattle.up_words.specs.Words.{split, word_at}
 use Rattle.up_words.specs.declared.fault.Fault.{Fault}
 use Rattle.up_words.specs.declared.fault.Why.TheVariants.{Long}
+use Rattle.up_script.specs.Actions.{action_in}
+use Rattle.up_script.specs.Fit.{are_unlike, may_do}
 use Rattle.up_script.specs.Reading.{script_of, line_step, last_step}
+use Rattle.up_script.specs.Sound.{is_sound_action}
+use Rattle.up_script.specs.Text.{action_words, object_names, script_text}
+use Rattle.up_script.specs.Verbs.{verb_of, says}
+use Rattle.up_script.specs.Whole.{has_bytes, LeavesAs, HasText}
+use Rattle.up_script.specs.declared.declarations.Declared.{Declared}
 use Rattle.up_script.specs.declared.reading.Stage.{Stage}
 use Rattle.up_script.specs.declared.reading.Stage.TheVariants.{Header}
+use Rattle.up_script.specs.declared.script.Action.{Action}
+use Rattle.up_script.specs.declared.script.Kind.{Kind}
 use Rattle.up_script.specs.declared.script.Script.{Script}
+use Rattle.up_script.specs.declared.verbs.Verb.{Verb}
 
--- a text spells at most one script, and none where it has a fault
-abbrev pub OneScript : Type 0
-OneScript = (bytes : List ℕ) (script other : Script) → script_of bytes ≡ Ok script → script_of bytes ≡ Ok other → script ≡ other
+-- a script that keeps the limits is read from its text
+abbrev pub ReadsItsText : Type 0
+ReadsItsText = (script : Script) → HasText script → script_of (script_text script) ≡ Ok script
+
+-- a script that was read from a text is read, the same in each field, from its own text too
+abbrev pub ReadsItsOwnText : Type 0
+ReadsItsOwnText = (bytes : List ℕ) (script : Script) → script_of bytes ≡ Ok script → script_of (script_text script) ≡ Ok script
+
+-- words that an actor of this kind is read to say this action by, with a verb that is its own
+abbrev pub IsReadAs : Declared → Kind → List (List ℕ) → Action → Type 0
+IsReadAs declared kind words action = (verb : Verb) × (verb_of words ≡ Some verb) × (action_in declared kind verb words ≡ Ok action) × (says verb kind ≡ true)
+
+-- an action that keeps the limits is read from its words, behind any actor's name, by those whose it is
+abbrev pub ReadsItsAction : Type 0
+ReadsItsAction = (declared : Declared) (kind : Kind) (name : List ℕ) (action : Action) → are_unlike bytes_eq (object_names declared.objects) ≡ true → is_sound_action (length declared.objects) action ≡ true
+    → has_bytes action ≡ true → LeavesAs kind action → may_do kind action ≡ true → IsReadAs declared kind (name ∷ action_words (object_names declared.objects) action) action
+
+-- and from no others
+abbrev pub ReadsOnlyItsAction : Type 0
+ReadsOnlyItsAction = (declared : Declared) (kind : Kind) (verb : Verb) (words : List (List ℕ)) (action : Action) → verb_of words ≡ Some verb → action_in declared kind verb words ≡ Ok action
+    → words ≡ word_at words 0 ∷ action_words (object_names declared.objects) action
 
 -- these lines, of which the first has number n, lead from one stage to another without a fault
 abbrev pub Leads : ℕ → Stage → List (List ℕ) → Stage → Type 0

@@ -6,4 +6,6 @@ pub mod Objects
 pub mod Reading
 pub mod Sound
 pub mod Stages
+pub mod Text
 pub mod Verbs
+pub mod Whole

@@ -1,10 +1,21 @@
 //! What the definition of a script's text says, apart from how a text is read.
 
-ghost use Rattle.up_script.specs.Laws.{OneScript, NamesFirst, NamesLength};
+ghost use Rattle.up_script.specs.Laws.{ReadsItsAction, ReadsOnlyItsAction, ReadsItsText, ReadsItsOwnText, NamesFirst, NamesLength};
 
-/// A text spells at most one script.
-pub fn a_text_spells_one_script()
-    ensures { OneScript }
+/// A script that keeps the limits is read from its text.
+pub fn a_script_is_read_from_its_text()
+    ensures { ReadsItsText }
+{}
+
+/// What was read from any text is the script of its own text.
+pub fn what_was_read_is_read_from_its_text()
+    ensures { ReadsItsOwnText }
+{}
+
+/// An action that keeps the limits is read from its words, and from no others.
+pub fn an_action_is_read_from_its_words()
+    ensures back { ReadsItsAction }
+    ensures only { ReadsOnlyItsAction }
 {}
 
 /// The fault of a text is that of its first faulty line.

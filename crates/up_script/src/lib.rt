@@ -12,7 +12,10 @@ mod reading;
 mod script;
 mod verbs;
 
-pub use laws::{a_text_spells_one_script, the_first_fault_is_named};
+pub use laws::{
+    a_script_is_read_from_its_text, an_action_is_read_from_its_words, the_first_fault_is_named,
+    what_was_read_is_read_from_its_text,
+};
 pub use reading::read_script;
 pub use script::{
     Action, ActorLine, ActorLines, Kind, Line, Lines, Numbers, ObjectLine, ObjectLines, Script,

@@ -1,6 +1,5 @@
 -- Entries and births have one text each.
-use Rattle.std.proofs.Common.{◌≡◌, ℕ, ◌+◌, ◌<◌, ◌≤◌, Bool, true, false, leb, List, [], ◌∷◌, ◌++◌, length, drop, Option, Some, refl, sym, ap, ap₂, ◌∙◌, arith}
-use Rattle.std.specs.Fmt.{decimal}
+use Rattle.std.proofs.Common.{◌≡◌, ℕ, ◌<◌, ◌≤◌, true, leb, List, ◌∷◌, length, drop, refl, sym, ap, ap₂, ◌∙◌, arith}
 use Rattle.std.specs.Prelude.{codes}
 use Rattle.std.specs.List.{list_all}
 use Rattle.std.proofs.lemmas.Bool.{and_parts, leb-true}
@@ -16,7 +15,6 @@ use Rattle.up_fields.specs.Limits.{all_tickets, all_counts}
 use Rattle.up_fields.specs.Text.{line_of}
 use Rattle.up_fields.proofs.Values.{flag_again}
 use Rattle.up_fields.proofs.Sentences.{split_words}
-use Rattle.up_calls.specs.Text.{call_words}
 use Rattle.up_replies.specs.Text.{reply_words}
 use Rattle.up_text.specs.Allowed.{entry_allowed, birth_allowed}
 use Rattle.up_text.specs.Reading.{birth_in}

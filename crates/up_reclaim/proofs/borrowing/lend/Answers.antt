@@ -1,5 +1,5 @@
 use Rattle.std.proofs.Common.{refl}
-use Rattle.up_reclaim.proofs.Loans.{borrow_lends}
+use Rattle.up_reclaim.proofs.Lending.{borrow_lends}
 use Rattle.up_reclaim.proofs.borrowing.lend.Goals as goal
 
 pub reframe-requires-clause-reframes : goal.reframe-requires-clause-reframes

@@ -1,0 +1,6 @@
+mod PieceAt
+mod Keeping
+mod Wished
+mod Saying
+mod Telling
+mod Ruling
