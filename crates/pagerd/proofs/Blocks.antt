@@ -7,9 +7,9 @@ use Rattle.up_model.specs.Parked.{retried}
 use Rattle.up_model.proofs.Bools.{and_left, and_right, not_true, nat_eq_true, nat_eq-same, differ}
 use Rattle.up_script.specs.declared.script.Line.{Line}
 use Rattle.pagerd.specs.Built.{is_built_action, is_able_line, are_able}
-use Rattle.pagerd.specs.Steps.{Entered, Aimed, is_go, acts, call_of, aim_of, calls_of, parks, lines_begun, retry_of, parked_to_retry, LineBegins, Block, LineDone, Steps}
+use Rattle.pagerd.specs.Steps.{Entered, Aimed, is_go, acts, call_of, aim_of, calls_of, place_of, lines_begun, retry_of, place_to_retry, LineBegins, Block, LineDone, Steps}
 use Rattle.pagerd.specs.Stage.{Staged, entry_of, Acted, Rested, Passed, or_nowhere, waits_at, Began, SameShape, EnteredFor, Paced, StoodAt, Further, GoesOn, WentOn, Did, GoneThrough}
-use Rattle.pagerd.specs.declared.steps.Parked.{Parked}
+use Rattle.pagerd.specs.declared.steps.WaitPlace.{WaitPlace}
 use Rattle.pagerd.proofs.Staging.{get_within, some_same, entered_acted, entered_same, births_acted, built_no_retry}
 
 cond-suc : (b : Bool) (m n : ℕ) → suc (cond b m n) ≡ cond b (suc m) (suc n)
@@ -98,8 +98,8 @@ mine_at : (lines : List Line) (who end at : ℕ) (g : List Entered) (stage : Sta
 mine_at lines who end at g stage s here known = s.paced.pace who known ∙ ap (λ (n : ℕ). length (calls_of (take n lines) who)) here
 
 -- an actor that isn't kept to wait doesn't wait
-parks_free : (g : List Entered) (stage : Staged) (who : ℕ) (parked : Option Parked) → EnteredFor g stage → slice_get stage.waits who ≡ Some parked → parks g who ≡ parked
-parks_free g stage who parked e is = some_same (parks g who) parked (sym (e.waits who (get_within stage.waits who parked is)) ∙ is)
+parks_free : (g : List Entered) (stage : Staged) (who : ℕ) (place : Option WaitPlace) → EnteredFor g stage → slice_get stage.waits who ≡ Some place → place_of g who ≡ place
+parks_free g stage who place e is = some_same (place_of g who) place (sym (e.waits who (get_within stage.waits who place is)) ∙ is)
 
 -- past one of its own lines, with an entry of that line's call
 own_further : (lines : List Line) (who end at : ℕ) (g : List Entered) (stage mid next : Staged) (line : Line) → acts who line ≡ true → slice_index stage.done who ≡ at → who < length stage.done →
@@ -191,10 +191,10 @@ goes_past lines who end at old new next line g known lt is built free p =
     subst (λ (n : ℕ). GoesOn lines who end n old next) one (goes_past_suc lines who end at old new next line g known lt is built free (subst (λ (n : ℕ). Passed new next line who n) (sym one) p))
 
 -- where it ends: its actor waits
-pub went_waiting : (lines : List Line) (who end at : ℕ) (old new : Staged) (parked : Option Parked) → GoesOn lines who end at old new → slice_get new.waits who ≡ Some parked → IsSome parked → WentOn lines who end old new
-went_waiting lines who end at old new parked g is some = record {
+pub went_waiting : (lines : List Line) (who end at : ℕ) (old new : Staged) (place : Option WaitPlace) → GoesOn lines who end at old new → slice_get new.waits who ≡ Some place → IsSome place → WentOn lines who end old new
+went_waiting lines who end at old new place g is some = record {
   shape = g.shape;
-  went = λ h s. let f = g.goes h s in (f, inl (subst (λ (o : Option Parked). IsSome o) (sym (parks_free f.now new who parked f.stands.entered is)) some));
+  went = λ h s. let f = g.goes h s in (f, inl (subst (λ (o : Option WaitPlace). IsSome o) (sym (parks_free f.now new who place f.stands.entered is)) some));
 }
 
 -- or its lines are done. The first of them stood no later than the end
@@ -221,9 +221,9 @@ able_line objects actors [] at line b is = absurd cc
 able_line objects actors (x ∷ xs) zero line b is = let same : x ≡ line = cc in subst (λ (y : Line). is_able_line objects actors y ≡ true) same (and_left (is_able_line objects actors x) _ b)
 able_line objects actors (x ∷ xs) (suc at) line b is = able_line objects actors xs at line (and_right (is_able_line objects actors x) _ b) is
 
-pub no_parked : (parked : Option Parked) → is_some parked ≡ false → parked ≡ None
-no_parked None p = refl
-no_parked (Some t) p = absurd cc
+pub no_place : (place : Option WaitPlace) → is_some place ≡ false → place ≡ None
+no_place None p = refl
+no_place (Some t) p = absurd cc
 
 -- what a line's begin makes of the entries
 record BeganFor (g : List Entered) (mid : Staged) (line : Line) : Type 0 where
@@ -232,32 +232,32 @@ record BeganFor (g : List Entered) (mid : Staged) (line : Line) : Type 0 where
   pub begins : LineBegins line g now
   pub same : (who : ℕ) → lines_begun now who ≡ lines_begun g who
 
-began_by : (g : List Entered) (old mid : Staged) (line : Line) (o : Option Parked) → line.actor < length old.waits → EnteredFor g old → parked_to_retry g line ≡ o →
-    MatchOption o (Rested old mid) (λ parked. Acted old mid line.actor (retry_of parked)) → BeganFor g mid line
+began_by : (g : List Entered) (old mid : Staged) (line : Line) (o : Option WaitPlace) → line.actor < length old.waits → EnteredFor g old → place_to_retry g line ≡ o →
+    MatchOption o (Rested old mid) (λ place. Acted old mid line.actor (retry_of place)) → BeganFor g mid line
 began_by g old mid line None known e is r = record { now = g; entered = entered_same g old mid r.lives r.waits e; begins = rw is refl; same = λ who. refl }
-began_by g old mid line (Some parked) known e is a =
-    let x = entry_of a.life line.actor (retry_of parked) in
+began_by g old mid line (Some place) known e is a =
+    let x = entry_of a.life line.actor (retry_of place) in
     record {
       now = x ∷ g;
-      entered = entered_acted g old mid line.actor (retry_of parked) a known e;
+      entered = entered_acted g old mid line.actor (retry_of place) a known e;
       begins = rw is (x, refl, record { actor = refl; epoch = refl; on = refl; made = refl });
-      same = λ who. begun_retry x g who parked.ticket refl;
+      same = λ who. begun_retry x g who place.ticket refl;
     }
 
-retry_same : (g : List Entered) (old : Staged) (line : Line) → line.actor < length old.waits → EnteredFor g old → cond (is_go line.action) (waits_at old line.actor) None ≡ parked_to_retry g line
-retry_same g old line known e = ap (λ (o : Option Parked). cond (is_go line.action) o None) (ap or_nowhere (e.waits line.actor known))
+retry_same : (g : List Entered) (old : Staged) (line : Line) → line.actor < length old.waits → EnteredFor g old → cond (is_go line.action) (waits_at old line.actor) None ≡ place_to_retry g line
+retry_same g old line known e = ap (λ (o : Option WaitPlace). cond (is_go line.action) o None) (ap or_nowhere (e.waits line.actor known))
 
 began_for : (g : List Entered) (old mid : Staged) (line : Line) → line.actor < length old.waits → EnteredFor g old → Began old mid line → BeganFor g mid line
-began_for g old mid line known e b = began_by g old mid line (parked_to_retry g line) known e refl
-    (subst (λ (o : Option Parked). MatchOption o (Rested old mid) (λ parked. Acted old mid line.actor (retry_of parked))) (retry_same g old line known e) b)
+began_for g old mid line known e b = began_by g old mid line (place_to_retry g line) known e refl
+    (subst (λ (o : Option WaitPlace). MatchOption o (Rested old mid) (λ place. Acted old mid line.actor (retry_of place))) (retry_same g old line known e) b)
 
-began_shape_by : (old mid : Staged) (line : Line) (o : Option Parked) → MatchOption o (Rested old mid) (λ parked. Acted old mid line.actor (retry_of parked)) → SameShape old mid
+began_shape_by : (old mid : Staged) (line : Line) (o : Option WaitPlace) → MatchOption o (Rested old mid) (λ place. Acted old mid line.actor (retry_of place)) → SameShape old mid
 began_shape_by old mid line None r = rested_shape old mid r
-began_shape_by old mid line (Some parked) a = acted_shape old mid line.actor (retry_of parked) a
+began_shape_by old mid line (Some place) a = acted_shape old mid line.actor (retry_of place) a
 
-began_done_by : (old mid : Staged) (line : Line) (o : Option Parked) → MatchOption o (Rested old mid) (λ parked. Acted old mid line.actor (retry_of parked)) → mid.done ≡ old.done
+began_done_by : (old mid : Staged) (line : Line) (o : Option WaitPlace) → MatchOption o (Rested old mid) (λ place. Acted old mid line.actor (retry_of place)) → mid.done ≡ old.done
 began_done_by old mid line None r = r.done
-began_done_by old mid line (Some parked) a = a.done
+began_done_by old mid line (Some place) a = a.done
 
 pub began_shape : (old mid : Staged) (line : Line) → Began old mid line → SameShape old mid
 began_shape old mid line b = began_shape_by old mid line (cond (is_go line.action) (waits_at old line.actor) None) b

@@ -15,7 +15,7 @@ use Rattle.pagerd.specs.Steps.{Entered, of_object}
 use Rattle.pagerd.specs.Stage.{Staged, StoodAt, GoneThrough}
 use Rattle.pagerd.specs.Standing.{Keeps}
 use Rattle.pagerd.specs.Journals.{journals_from, AreJournalsOf, AllLegal, new_life, new_lives, ends_of}
-use Rattle.pagerd.specs.declared.steps.Parked.{Parked}
+use Rattle.pagerd.specs.declared.steps.WaitPlace.{WaitPlace}
 use Rattle.pagerd.proofs.Failing.{none_fails}
 use Rattle.pagerd.proofs.Staging.{some_same}
 
@@ -35,17 +35,17 @@ zeros zero who = refl
 zeros (suc n) zero = refl
 zeros (suc n) (suc who) = zeros n who
 
-nobody : (n who : ℕ) (parked : Parked) → slice_get (replicate n None) who ≡ Some (Some parked) → ⊥
-nobody zero who parked is = cc
-nobody (suc n) zero parked is = cc
-nobody (suc n) (suc who) parked is = nobody n who parked is
+nobody : (n who : ℕ) (place : WaitPlace) → slice_get (replicate n None) who ≡ Some (Some place) → ⊥
+nobody zero who place is = cc
+nobody (suc n) zero place is = cc
+nobody (suc n) (suc who) place is = nobody n who place is
 
 -- what a new stage keeps
-pub keeps_new : (objects : List ObjectLine) (lives : List Life) (waits : List (Option Parked)) (done : List ℕ) (actors : ℕ) → lives ≡ new_lives objects → waits ≡ replicate actors None → done ≡ replicate actors 0 → Keeps lives waits done
+pub keeps_new : (objects : List ObjectLine) (lives : List Life) (waits : List (Option WaitPlace)) (done : List ℕ) (actors : ℕ) → lives ≡ new_lives objects → waits ≡ replicate actors None → done ≡ replicate actors 0 → Keeps lives waits done
 keeps_new objects lives waits done actors lives_are waits_are done_are = rw (lives_are, waits_are, done_are) (record {
   legal = λ n life is. subst (λ (h : List Entry). Legal life.birth h) (sym (new_at objects n life is)) tt;
-  count = length-replicate {A = Option Parked} actors None ∙ sym (length-replicate actors 0);
-  held = λ who parked is. absurd (nobody actors who parked is);
+  count = length-replicate {A = Option WaitPlace} actors None ∙ sym (length-replicate actors 0);
+  held = λ who place is. absurd (nobody actors who place is);
 })
 
 -- no entry stands for it, and nobody has begun a line
@@ -53,7 +53,7 @@ stood_new : (lines : List Line) (objects : List ObjectLine) (actors : ℕ) (stag
 stood_new lines objects actors stage is = rw is (record {
   entered = record {
     journals = λ n life at. new_at objects n life at;
-    waits = λ who lt. same_at actors who None (rw (length-replicate {A = Option Parked} actors None) at lt);
+    waits = λ who lt. same_at actors who None (rw (length-replicate {A = Option WaitPlace} actors None) at lt);
   };
   paced = record { pace = λ who lt. rw (zeros actors who) refl; low = λ who lt. rw (zeros actors who) (omega arith) };
 })

@@ -15,10 +15,10 @@ use Rattle.up_model.proofs.Bools.{nat_eq_true, nat_eq-same}
 use Rattle.up_script.specs.Sound.{is_within, is_sound_call, is_sound_action, is_fair_object, is_sound_object}
 use Rattle.up_script.specs.declared.script.ObjectLine.{ObjectLine}
 use Rattle.pagerd.specs.Built.{is_built_action, has_limits, is_built_object, is_able_object}
-use Rattle.pagerd.specs.Steps.{Entered, Aimed, of_object, parked_at, parks, is_go, call_of, object_at}
-use Rattle.pagerd.specs.Stage.{Staged, entry_of, parked_after, Acted, EnteredFor}
-use Rattle.pagerd.specs.Standing.{IsParked, Keeps}
-use Rattle.pagerd.specs.declared.steps.Parked.{Parked}
+use Rattle.pagerd.specs.Steps.{Entered, Aimed, of_object, place_at, place_of, is_go, call_of, object_at}
+use Rattle.pagerd.specs.Stage.{Staged, entry_of, place_after, Acted, EnteredFor}
+use Rattle.pagerd.specs.Standing.{StandsWaiting, Keeps}
+use Rattle.pagerd.specs.declared.steps.WaitPlace.{WaitPlace}
 
 zero_is_no_suc : (t : ℕ) → (0 == suc t) ≡ false
 zero_is_no_suc t = grind (arith, nat_tests)
@@ -59,16 +59,16 @@ legal_acted lives who aim life legal is ok n l at =
     ] (sym (slice_get-set lives aim.object (after life who 0 aim.call) n (get_within lives aim.object life is)) ∙ at)
 
 -- where an actor waits by its ticket
-parked_is : (object : ℕ) (ticket : Option ℕ) (parked : Parked) → parked_at object ticket ≡ Some parked → (parked.object ≡ object) × (ticket ≡ Some parked.ticket)
-parked_is object None parked p = absurd cc
-parked_is object (Some t) parked p =
-    let same : record { object = object; ticket = t } ≡ parked = some_same (record { object = object; ticket = t }) parked p in
-    (ap (λ (x : Parked). x.object) (sym same), ap (λ (x : Parked). Some x.ticket) same)
+place_is : (object : ℕ) (ticket : Option ℕ) (place : WaitPlace) → place_at object ticket ≡ Some place → (place.object ≡ object) × (ticket ≡ Some place.ticket)
+place_is object None place p = absurd cc
+place_is object (Some t) place p =
+    let same : record { object = object; ticket = t } ≡ place = some_same (record { object = object; ticket = t }) place p in
+    (ap (λ (x : WaitPlace). x.object) (sym same), ap (λ (x : WaitPlace). Some x.ticket) same)
 
 -- the actor of the call waits where its reply says
-parked_own : (lives : List Life) (who : ℕ) (aim : Aimed) (life : Life) (parked : Parked) → slice_get lives aim.object ≡ Some life → parked_after life who aim ≡ Some parked → IsParked (with_call lives who aim life) who parked
-parked_own lives who aim life parked is waits =
-    let p = parked_is aim.object (waits_after (reply life.birth life.journal who 0 aim.call) aim.call) parked waits in
+place_own : (lives : List Life) (who : ℕ) (aim : Aimed) (life : Life) (place : WaitPlace) → slice_get lives aim.object ≡ Some life → place_after life who aim ≡ Some place → StandsWaiting (with_call lives who aim life) who place
+place_own lives who aim life place is waits =
+    let p = place_is aim.object (waits_after (reply life.birth life.journal who 0 aim.call) aim.call) place waits in
     record {
       life = after life who 0 aim.call;
       is = rw p.0 (slice_get-set lives aim.object (after life who 0 aim.call) aim.object (get_within lives aim.object life is) ∙ rw (nat_eq-same aim.object) refl);
@@ -76,30 +76,30 @@ parked_own lives who aim life parked is waits =
     }
 
 -- another actor waits where it did
-parked_other : (lives : List Life) (who : ℕ) (aim : Aimed) (life : Life) (v : ℕ) (parked : Parked) → slice_get lives aim.object ≡ Some life → (who == v) ≡ false → IsParked lives v parked → IsParked (with_call lives who aim life) v parked
-parked_other lives who aim life v parked is other i =
-    let found = slice_get-set lives aim.object (after life who 0 aim.call) parked.object (get_within lives aim.object life is) in
-    elim (aim.object == parked.object) as (λ b. (aim.object == parked.object) ≡ b → slice_get (with_call lives who aim life) parked.object ≡ cond b (Some (after life who 0 aim.call)) (slice_get lives parked.object) → IsParked (with_call lives who aim life) v parked) [
-      | true ↦ λ q f. let here : aim.object ≡ parked.object = nat_eq_true aim.object parked.object q in
+place_other : (lives : List Life) (who : ℕ) (aim : Aimed) (life : Life) (v : ℕ) (place : WaitPlace) → slice_get lives aim.object ≡ Some life → (who == v) ≡ false → StandsWaiting lives v place → StandsWaiting (with_call lives who aim life) v place
+place_other lives who aim life v place is other i =
+    let found = slice_get-set lives aim.object (after life who 0 aim.call) place.object (get_within lives aim.object life is) in
+    elim (aim.object == place.object) as (λ b. (aim.object == place.object) ≡ b → slice_get (with_call lives who aim life) place.object ≡ cond b (Some (after life who 0 aim.call)) (slice_get lives place.object) → StandsWaiting (with_call lives who aim life) v place) [
+      | true ↦ λ q f. let here : aim.object ≡ place.object = nat_eq_true aim.object place.object q in
           let same : life ≡ i.life = some_same life i.life (sym is ∙ ap (slice_get lives) here ∙ i.is) in
           record { life = after life who 0 aim.call; is = f; under = rw other (ap (λ (l : Life). waits_under l.journal v) same ∙ i.under) }
       | false ↦ λ q f. record { life = i.life; is = f ∙ i.is; under = i.under }
     ] refl found
 
 -- what a stage keeps is kept by a call
-pub keeps_acted : (lives : List Life) (waits : List (Option Parked)) (done : List ℕ) (who : ℕ) (aim : Aimed) (life : Life) → Keeps lives waits done → who < length done →
-    slice_get lives aim.object ≡ Some life → proper life.journal who aim.call ≡ true → Keeps (with_call lives who aim life) (slice_set waits who (parked_after life who aim)) done
+pub keeps_acted : (lives : List Life) (waits : List (Option WaitPlace)) (done : List ℕ) (who : ℕ) (aim : Aimed) (life : Life) → Keeps lives waits done → who < length done →
+    slice_get lives aim.object ≡ Some life → proper life.journal who aim.call ≡ true → Keeps (with_call lives who aim life) (slice_set waits who (place_after life who aim)) done
 keeps_acted lives waits done who aim life s lt is ok =
     let within : who < length waits = rw s.count lt in
     record {
       legal = legal_acted lives who aim life s.legal is ok;
-      count = length-set waits who (parked_after life who aim) ∙ s.count;
-      held = λ v parked at.
-          elim (who == v) as (λ b. (who == v) ≡ b → cond b (Some (parked_after life who aim)) (slice_get waits v) ≡ Some (Some parked) → IsParked (with_call lives who aim life) v parked) [
-            | true ↦ λ q p. subst (λ (u : ℕ). IsParked (with_call lives who aim life) u parked) (nat_eq_true who v q)
-                (parked_own lives who aim life parked is (some_same (parked_after life who aim) (Some parked) p))
-            | false ↦ λ q p. parked_other lives who aim life v parked is q (s.held v parked p)
-          ] refl (sym (slice_get-set waits who (parked_after life who aim) v within) ∙ at);
+      count = length-set waits who (place_after life who aim) ∙ s.count;
+      held = λ v place at.
+          elim (who == v) as (λ b. (who == v) ≡ b → cond b (Some (place_after life who aim)) (slice_get waits v) ≡ Some (Some place) → StandsWaiting (with_call lives who aim life) v place) [
+            | true ↦ λ q p. subst (λ (u : ℕ). StandsWaiting (with_call lives who aim life) u place) (nat_eq_true who v q)
+                (place_own lives who aim life place is (some_same (place_after life who aim) (Some place) p))
+            | false ↦ λ q p. place_other lives who aim life v place is q (s.held v place p)
+          ] refl (sym (slice_get-set waits who (place_after life who aim) v within) ∙ at);
     }
 
 -- the entries with one more stand for the stage after a call
@@ -113,10 +113,10 @@ entered_acted g old new who aim a within e = record {
         | false ↦ λ q p. e.journals n l p
       ] refl (sym (slice_get-set old.lives aim.object (after a.life who 0 aim.call) n (get_within old.lives aim.object a.life a.is)) ∙ ap (λ (ls : List Life). slice_get ls n) (sym a.lives) ∙ at);
   waits = λ v v_lt.
-      ap (λ (ws : List (Option Parked)). slice_get ws v) a.waits ∙ slice_get-set old.waits who (parked_after a.life who aim) v within
-      ∙ elim (who == v) as (λ b. cond b (Some (parked_after a.life who aim)) (slice_get old.waits v) ≡ Some (cond b (parked_after a.life who aim) (parks g v))) [
+      ap (λ (ws : List (Option WaitPlace)). slice_get ws v) a.waits ∙ slice_get-set old.waits who (place_after a.life who aim) v within
+      ∙ elim (who == v) as (λ b. cond b (Some (place_after a.life who aim)) (slice_get old.waits v) ≡ Some (cond b (place_after a.life who aim) (place_of g v))) [
         | true ↦ refl
-        | false ↦ e.waits v (rw (length-set old.waits who (parked_after a.life who aim)) at rw a.waits at v_lt)
+        | false ↦ e.waits v (rw (length-set old.waits who (place_after a.life who aim)) at rw a.waits at v_lt)
       ];
 }
 
@@ -181,12 +181,12 @@ get_some (y ∷ ys) zero lt = (y, refl)
 get_some (y ∷ ys) (suc k) lt = get_some ys k (omega arith)
 
 -- the same, with the object and the waiting as the code has them
-pub keeps_by : (lives : List Life) (waits : List (Option Parked)) (done : List ℕ) (who : ℕ) (aim : Aimed) (life new : Life) (w : Option Parked) → Keeps lives waits done → who < length done →
-    slice_get lives aim.object ≡ Some life → proper life.journal who aim.call ≡ true → new ≡ after life who 0 aim.call → w ≡ parked_after life who aim → Keeps (slice_set lives aim.object new) (slice_set waits who w) done
+pub keeps_by : (lives : List Life) (waits : List (Option WaitPlace)) (done : List ℕ) (who : ℕ) (aim : Aimed) (life new : Life) (w : Option WaitPlace) → Keeps lives waits done → who < length done →
+    slice_get lives aim.object ≡ Some life → proper life.journal who aim.call ≡ true → new ≡ after life who 0 aim.call → w ≡ place_after life who aim → Keeps (slice_set lives aim.object new) (slice_set waits who w) done
 keeps_by lives waits done who aim life new w s lt is ok new_is w_is = rw (new_is, w_is) (keeps_acted lives waits done who aim life s lt is ok)
 
-pub acted_by : (lives : List Life) (waits : List (Option Parked)) (done : List ℕ) (who : ℕ) (aim : Aimed) (life new : Life) (w : Option Parked) → slice_get lives aim.object ≡ Some life →
-    new ≡ after life who 0 aim.call → w ≡ parked_after life who aim →
+pub acted_by : (lives : List Life) (waits : List (Option WaitPlace)) (done : List ℕ) (who : ℕ) (aim : Aimed) (life new : Life) (w : Option WaitPlace) → slice_get lives aim.object ≡ Some life →
+    new ≡ after life who 0 aim.call → w ≡ place_after life who aim →
     Acted (record { lives = lives; waits = waits; done = done }) (record { lives = slice_set lives aim.object new; waits = slice_set waits who w; done = done }) who aim
 acted_by lives waits done who aim life new w is new_is w_is = rw (new_is, w_is) (record { life = life; is = is; lives = refl; waits = refl; done = refl })
 

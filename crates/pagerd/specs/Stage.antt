@@ -4,13 +4,13 @@ use Rattle.std.specs.Bool.{MatchBool}
 use Rattle.up_model.specs.Legal.{Life, after, due}
 use Rattle.up_model.specs.Parked.{waits_after}
 use Rattle.up_script.specs.declared.script.Line.{Line}
-use Rattle.pagerd.specs.Steps.{Entered, Aimed, of_object, parked_at, parks, lines_begun, calls_of, aim_of, is_go, acts, retry_of, Block, IsDone, LineDone, Steps}
-use Rattle.pagerd.specs.declared.steps.Parked.{Parked}
+use Rattle.pagerd.specs.Steps.{Entered, Aimed, of_object, place_at, place_of, lines_begun, calls_of, aim_of, is_go, acts, retry_of, Block, IsDone, LineDone, Steps}
+use Rattle.pagerd.specs.declared.steps.WaitPlace.{WaitPlace}
 
 -- what contracts see of it: each object's birth and journal, where each actor waits, and up to which line its lines are done
 pub record Staged : Type 0 where
   pub lives : List Life
-  pub waits : List (Option Parked)
+  pub waits : List (Option WaitPlace)
   pub done : List ℕ
 
 -- the entry of a call of this actor
@@ -18,15 +18,15 @@ abbrev pub entry_of : Life → ℕ → Aimed → Entered
 entry_of life who aim = record { object = aim.object; entry = due life who 0 aim.call }
 
 -- where the actor waits after its call
-abbrev pub parked_after : Life → ℕ → Aimed → Option Parked
-parked_after life who aim = parked_at aim.object (waits_after (due life who 0 aim.call).reply aim.call)
+abbrev pub place_after : Life → ℕ → Aimed → Option WaitPlace
+place_after life who aim = place_at aim.object (waits_after (due life who 0 aim.call).reply aim.call)
 
 -- the actor made this call on its object
 pub record Acted (old new : Staged) (who : ℕ) (aim : Aimed) : Type 0 where
   pub life : Life
   pub is : slice_get old.lives aim.object ≡ Some life
   pub lives : new.lives ≡ slice_set old.lives aim.object (after life who 0 aim.call)
-  pub waits : new.waits ≡ slice_set old.waits who (parked_after life who aim)
+  pub waits : new.waits ≡ slice_set old.waits who (place_after life who aim)
   pub done : new.done ≡ old.done
 
 -- nothing was called
@@ -44,17 +44,17 @@ pub record Passed (old new : Staged) (line : Line) (who next : ℕ) : Type 0 whe
   pub done : new.done ≡ slice_set old.done who next
 
 -- where this actor waits
-abbrev pub or_nowhere : Option (Option Parked) → Option Parked
+abbrev pub or_nowhere : Option (Option WaitPlace) → Option WaitPlace
 or_nowhere None = None
-or_nowhere (Some parked) = parked
+or_nowhere (Some place) = place
 
-abbrev pub waits_at : Staged → ℕ → Option Parked
+abbrev pub waits_at : Staged → ℕ → Option WaitPlace
 waits_at stage who = or_nowhere (slice_get stage.waits who)
 
 -- a line began: at a go an actor that waits retried its ticket
 abbrev pub Began : Staged → Staged → Line → Type 0
 Began old new line =
-    MatchOption (cond (is_go line.action) (waits_at old line.actor) None) (Rested old new) (λ parked. Acted old new line.actor (retry_of parked))
+    MatchOption (cond (is_go line.action) (waits_at old line.actor) None) (Rested old new) (λ place. Acted old new line.actor (retry_of place))
 
 -- births and numbers stay
 pub record SameShape (old new : Staged) : Type 0 where
@@ -66,7 +66,7 @@ pub record SameShape (old new : Staged) : Type 0 where
 -- these entries stand for the stage: each object's journal is made of its own, and each actor waits where its last one says
 pub record EnteredFor (g : List Entered) (stage : Staged) : Type 0 where
   pub journals : (object : ℕ) (life : Life) → slice_get stage.lives object ≡ Some life → life.journal ≡ of_object object g
-  pub waits : (who : ℕ) → who < length stage.waits → slice_get stage.waits who ≡ Some (parks g who)
+  pub waits : (who : ℕ) → who < length stage.waits → slice_get stage.waits who ≡ Some (place_of g who)
 
 -- each actor has begun its lines up to that to which it is done, and no line from `most` on
 pub record Paced (lines : List Line) (most : ℕ) (done : List ℕ) (g : List Entered) : Type 0 where

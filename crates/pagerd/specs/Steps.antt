@@ -9,7 +9,7 @@ use Rattle.up_model.specs.declared.entry.Call.TheVariants.{Read as ReadCall, Ret
 use Rattle.up_script.specs.declared.script.Action.{Action}
 use Rattle.up_script.specs.declared.script.Action.TheVariants.{Go, Read, Act}
 use Rattle.up_script.specs.declared.script.Line.{Line}
-use Rattle.pagerd.specs.declared.steps.Parked.{Parked}
+use Rattle.pagerd.specs.declared.steps.WaitPlace.{WaitPlace}
 
 -- an entry, and the object in whose journal it stands
 pub record Entered : Type 0 where
@@ -22,14 +22,14 @@ of_object object [] = []
 of_object object (x ∷ before) = cond (x.object == object) (x.entry ∷ of_object object before) (of_object object before)
 
 -- the object on which an actor waits, and its ticket there
-abbrev pub parked_at : ℕ → Option ℕ → Option Parked
-parked_at object None = None
-parked_at object (Some ticket) = Some (record { object = object; ticket = ticket })
+abbrev pub place_at : ℕ → Option ℕ → Option WaitPlace
+place_at object None = None
+place_at object (Some ticket) = Some (record { object = object; ticket = ticket })
 
 -- where an actor waits: its last entry decides
-abbrev pub parks : List Entered → ℕ → Option Parked
-parks [] who = None
-parks (x ∷ before) who = cond (x.entry.who == who) (parked_at x.object (waits_after x.entry.reply x.entry.call)) (parks before who)
+abbrev pub place_of : List Entered → ℕ → Option WaitPlace
+place_of [] who = None
+place_of (x ∷ before) who = cond (x.entry.who == who) (place_at x.object (waits_after x.entry.reply x.entry.call)) (place_of before who)
 
 abbrev pub is_go : Action → Bool
 is_go Go = true
@@ -82,22 +82,22 @@ pub record IsCallBy (x : Entered) (who : ℕ) (aim : Aimed) : Type 0 where
   pub made : x.entry.call ≡ aim.call
 
 -- the retry of a ticket, on its object
-abbrev pub retry_of : Parked → Aimed
-retry_of parked = record { object = parked.object; call = Retry parked.ticket Nothing }
+abbrev pub retry_of : WaitPlace → Aimed
+retry_of place = record { object = place.object; call = Retry place.ticket Nothing }
 
 -- what a line's actor retries first: at a go the ticket under which it waits
-abbrev pub parked_to_retry : List Entered → Line → Option Parked
-parked_to_retry h line = cond (is_go line.action) (parks h line.actor) None
+abbrev pub place_to_retry : List Entered → Line → Option WaitPlace
+place_to_retry h line = cond (is_go line.action) (place_of h line.actor) None
 
 -- the entries after a line began, `start` being those before it: the retry, where there is one
 abbrev pub LineBegins : Line → List Entered → List Entered → Type 0
 LineBegins line start first =
-    MatchOption (parked_to_retry start line) (first ≡ start)
-    (λ parked. (x : Entered) × (first ≡ x ∷ start) × IsCallBy x line.actor (retry_of parked))
+    MatchOption (place_to_retry start line) (first ≡ start)
+    (λ place. (x : Entered) × (first ≡ x ∷ start) × IsCallBy x line.actor (retry_of place))
 
 -- an entry of an actor that doesn't wait, by the call of its next line among `lines`, those up to now
 pub record IsNext (lines : List Line) (who : ℕ) (h : List Entered) (x : Entered) : Type 0 where
-  pub free : parks h who ≡ None
+  pub free : place_of h who ≡ None
   pub aim : Aimed
   pub own : IsCallBy x who aim
   pub next : slice_get (calls_of lines who) (lines_begun h who) ≡ Some aim
@@ -109,7 +109,7 @@ Block lines who first (x ∷ before) = (first ≡ x ∷ before) ⊎ (Block lines
 
 -- a block goes on until its actor waits, or has begun all its lines so far
 abbrev pub IsDone : List Line → ℕ → List Entered → Type 0
-IsDone lines who h = IsSome (parks h who) ⊎ (lines_begun h who ≡ length (calls_of lines who))
+IsDone lines who h = IsSome (place_of h who) ⊎ (lines_begun h who ≡ length (calls_of lines who))
 
 -- one line more: what it begins with, its block, and that the block goes on as far as it can
 pub record LineDone (lines : List Line) (line : Line) (start h : List Entered) : Type 0 where

@@ -79,7 +79,7 @@ fn play(alloc: Global, script: &Script) -> Result<Vec<Entries>, Memory>
 
 /// An object on which an actor waits, and its ticket there.
 #[derive(Clone, Copy, PartialEq, Eq, Debug)]
-pub struct Parked {
+pub struct WaitPlace {
     pub object: u32,
     pub ticket: u64,
 }
@@ -88,7 +88,7 @@ pub struct Parked {
 struct Stage {
     objects: Vec<Home>,
     /// Where each actor waits.
-    waits: Vec<Option<Parked>>,
+    waits: Vec<Option<WaitPlace>>,
     /// Up to which line the lines of each actor are done.
     done: Vec<usize>,
 }
@@ -140,7 +140,7 @@ impl Stage {
     }
 
     /// Where an actor waits.
-    fn waiting(&self, who: u32) -> Option<Parked>
+    fn waiting(&self, who: u32) -> Option<WaitPlace>
         requires { who < length self.now.done }
         ensures { slice_get self.now.waits who ≡ Some result }
     {
@@ -164,19 +164,19 @@ impl Stage {
     {
         let object = object_of(action);
         let reply = perform(&mut self.objects[object as usize], alloc, who, action)?;
-        self.waits[who as usize] = parked_on(object, ticket_after(&reply, None));
+        self.waits[who as usize] = place_on(object, ticket_after(&reply, None));
         Ok(())
     }
 
     /// Retries the ticket under which an actor waits.
-    fn retry(&mut self, alloc: Global, who: u32, parked: Parked) -> Result<(), Memory>
+    fn retry(&mut self, alloc: Global, who: u32, place: WaitPlace) -> Result<(), Memory>
         requires known { who < length self.old.done }
-        requires waits { slice_get self.old.waits who ≡ Some (Some parked) }
-        ensures { OnOk result (Acted self.old self.new who (steps.retry_of parked)) }
+        requires waits { slice_get self.old.waits who ≡ Some (Some place) }
+        ensures { OnOk result (Acted self.old self.new who (steps.retry_of place)) }
     {
-        let Parked { object, ticket } = parked;
+        let WaitPlace { object, ticket } = place;
         let reply = self.objects[object as usize].retry(alloc, who, 0, ticket)?;
-        self.waits[who as usize] = parked_on(object, ticket_after(&reply, Some(ticket)));
+        self.waits[who as usize] = place_on(object, ticket_after(&reply, Some(ticket)));
         Ok(())
     }
 
@@ -222,7 +222,7 @@ impl Stage {
         }
         match waiting {
             None => Ok(()),
-            Some(parked) => self.retry(alloc, line.actor, parked),
+            Some(place) => self.retry(alloc, line.actor, place),
         }
     }
 
@@ -249,7 +249,7 @@ impl Stage {
 }
 
 /// So many actors, of which none waits.
-fn nobody_waits(alloc: Global, actors: usize) -> Result<Vec<Option<Parked>>, Memory>
+fn nobody_waits(alloc: Global, actors: usize) -> Result<Vec<Option<WaitPlace>>, Memory>
     ensures { IfOk result (λ waits. waits.items ≡ replicate actors None) }
 {
     let mut waits = Vec::new(alloc);
@@ -303,12 +303,12 @@ fn let_go(objects: Vec<Home>) {
 }
 
 /// Where an actor waits that has this ticket on an object.
-fn parked_on(object: u32, ticket: Option<u64>) -> Option<Parked>
-    ensures { result ≡ steps.parked_at object ticket }
+fn place_on(object: u32, ticket: Option<u64>) -> Option<WaitPlace>
+    ensures { result ≡ steps.place_at object ticket }
 {
     match ticket {
         None => None,
-        Some(ticket) => Some(Parked { object, ticket }),
+        Some(ticket) => Some(WaitPlace { object, ticket }),
     }
 }
 

@@ -1,6 +1,0 @@
-pub mod Asking
-pub mod Stands
-pub mod Object
-pub mod Change
-pub mod Changing
-pub mod Calls
