@@ -1,5 +1,5 @@
 -- Pages that become zeros one by one.
-use Rattle.std.proofs.Common.{◌≡◌, ℕ, sym, ap}
+use Rattle.std.proofs.Common.{◌≡◌, ℕ, ap}
 use Rattle.up_object.specs.Change.{Change, at_mark}
 
 pub none_blanked : (change : Change) (first : ℕ) → change.done.mark ≡ first → change ≡ at_mark first change

@@ -1,5 +1,5 @@
 -- The same becomes of all who wait for a page of a range: as events, and what it leaves of what is asked for.
-use Rattle.std.proofs.Common.{◌≡◌, ℕ, ◌&&◌, Bool, true, false, cond, List, [], ◌∷◌, refl, ap, sym, ◌∙◌}
+use Rattle.std.proofs.Common.{◌≡◌, ℕ, ◌&&◌, false, cond, List, [], ◌∷◌, refl, ap, sym, ◌∙◌}
 use Rattle.up_num.specs.Span.{Span, covers}
 use Rattle.up_num.specs.Asks.{then_outcome, is_waiting}
 use Rattle.up_num.specs.declared.answers.AskKind.{AskKind}

@@ -1,17 +1,16 @@
 -- What a call makes that sets how many pages an object has.
-use Rattle.std.proofs.Common.{◌≡◌, ℕ, ◌+◌, ◌-◌, ◌<◌, ◌≤◌, ◌==◌, ◌&&◌, ◌||◌, not, Bool, true, false, cond, Option, Some, None, List, ◌∷◌, zero, suc, refl, ap, sym, ◌∙◌, subst, arith, nat_le, nat_lt, inl, inr}
+use Rattle.std.proofs.Common.{◌≡◌, ℕ, ◌+◌, ◌-◌, ◌<◌, ◌≤◌, ◌==◌, ◌&&◌, ◌||◌, not, Bool, true, false, cond, Some, None, List, ◌∷◌, zero, suc, refl, ap, sym, ◌∙◌, subst, arith, nat_le, nat_lt, inl, inr}
 use Rattle.std.proofs.lemmas.Bool.{cases_eq}
 use Rattle.std.proofs.lemmas.Bool.Decides.{nat_tests}
-use Rattle.up_num.specs.Span.{Span, covers}
+use Rattle.up_num.specs.Span.{Span}
 use Rattle.up_num.specs.declared.answers.AskKind.{AskKind}
 use Rattle.up_num.specs.declared.answers.AskKind.TheVariants.{Dirty as DirtyAsk}
-use Rattle.up_num.specs.declared.answers.Outcome.{Outcome}
 use Rattle.up_num.specs.declared.answers.Outcome.TheVariants.{Waiting, Shrunk}
 use Rattle.up_span.specs.Pages.{first_page}
 use Rattle.up_model.specs.Attempts.{accepts}
 use Rattle.up_model.specs.Packets.{is_packet}
 use Rattle.up_model.specs.Pins.{pins}
-use Rattle.up_model.specs.Size.{size, asks_to_grow, asks_to_cut}
+use Rattle.up_model.specs.Size.{size}
 use Rattle.up_model.specs.Asks.{asked, resolves}
 use Rattle.up_model.specs.Reply.{is_pinned}
 use Rattle.up_model.specs.Concerns.{concerns}
@@ -24,7 +23,7 @@ use Rattle.up_model.proofs.Passed.{none_passes}
 use Rattle.up_model.proofs.Resolved.{accepted_asked, happens_accepted}
 use Rattle.up_model.proofs.Steps.{changes_roles, detached_kept}
 use Rattle.up_model.proofs.Touching.{growth_blanks, cut_vanishes}
-use Rattle.up_object.specs.Change.{Change, Done, is_done, Rests}
+use Rattle.up_object.specs.Change.{Change, Done, Rests}
 use Rattle.up_size.specs.Sizes.{over, pinned_past}
 use Rattle.up_size.proofs.Events.{unasked_outside}
 

@@ -1,6 +1,6 @@
-use Rattle.std.proofs.Common.{◌≡◌, ◌<◌, ◌≤◌, sym, subst, ap, ◌∙◌, arith}
+use Rattle.std.proofs.Common.{sym, subst, arith}
 use Rattle.up_model.specs.Changes.{Blanks}
-use Rattle.up_object.specs.Change.{Change, at_mark}
+use Rattle.up_object.specs.Change.{Change}
 use Rattle.up_size.proofs.Blanked.{none_blanked}
 use Rattle.up_size.proofs.blanking.blank_all.Goals as goal
 

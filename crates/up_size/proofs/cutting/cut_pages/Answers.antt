@@ -1,7 +1,6 @@
-use Rattle.std.proofs.Common.{◌≡◌, ℕ, ◌<◌, ◌≤◌, sym, subst, ap, ◌∙◌}
+use Rattle.std.proofs.Common.{sym, subst, ap, ◌∙◌}
 use Rattle.up_model.specs.Attempts.{accepts}
 use Rattle.up_model.specs.declared.entry.Entry.{Entry}
-use Rattle.up_object.specs.Change.{Change}
 use Rattle.up_size.proofs.Resizes.{AllVanish, cut_gone}
 use Rattle.up_size.proofs.cutting.cut_pages.Goals as goal
 

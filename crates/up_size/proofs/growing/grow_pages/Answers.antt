@@ -1,4 +1,4 @@
-use Rattle.std.proofs.Common.{◌≡◌, ℕ, ◌<◌, ◌≤◌, sym, subst, ap, ◌∙◌}
+use Rattle.std.proofs.Common.{ℕ, ◌<◌, ◌≤◌, sym, subst, ap, ◌∙◌}
 use Rattle.up_model.specs.Attempts.{accepts}
 use Rattle.up_model.specs.Changes.{Blanks}
 use Rattle.up_model.specs.declared.entry.Entry.{Entry}

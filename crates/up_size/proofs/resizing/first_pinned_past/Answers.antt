@@ -1,4 +1,4 @@
-use Rattle.std.proofs.Common.{◌≡◌, ℕ, ◌-◌, ◌<◌, ◌≤◌, sym, subst, ap, ◌∙◌, arith}
+use Rattle.std.proofs.Common.{ℕ, ◌-◌, ap, ◌∙◌, arith}
 use Rattle.up_num.specs.Span.{Span}
 use Rattle.up_span.specs.Pages.{first_page}
 use Rattle.up_model.specs.Size.{size}
