@@ -4,3 +4,4 @@ mod Wished
 mod Saying
 mod Telling
 mod Ruling
+mod Framing

@@ -146,19 +146,19 @@ ruled_done who kind objects a said all t answer made r carries is own goes =
     carries
 
 -- an entry for the call under way
-record ActFacts (a : Acting) (t : List Entered) (x : Entered) : Type 0 where
-  one : Aim
-  way : under_way a ≡ Some one
-  on : x.object ≡ one.object
-  aim : aim_in t x ≡ Some one
-  evict : is_evict x.entry.call ≡ false
-  retry : (tk : ℕ) → a.ticket ≡ Some tk → (b : Brought) × (x.entry.call ≡ calls.Retry tk b)
+pub record ActFacts (a : Acting) (t : List Entered) (x : Entered) : Type 0 where
+  pub one : Aim
+  pub way : under_way a ≡ Some one
+  pub on : x.object ≡ one.object
+  pub aim : aim_in t x ≡ Some one
+  pub evict : is_evict x.entry.call ≡ false
+  pub retry : (tk : ℕ) → a.ticket ≡ Some tk → (b : Brought) × (x.entry.call ≡ calls.Retry tk b)
 
 retry_of : (ticket : Option ℕ) (tk : ℕ) (b : Brought) (call made : Call) → made ≡ bringing b (attempt ticket call) → ticket ≡ Some tk
     → (c : Brought) × (made ≡ calls.Retry tk c)
 retry_of ticket tk b call made is ticketed = (b, is ∙ ap (λ k. bringing b (attempt k call)) ticketed)
 
-act_facts : (who : ℕ) (kind : Kind) (objects : List ℕ) (a : Acting) (all : List Doing) (t : List Entered) (object : ℕ) (call : Call) (entry : Entry)
+pub act_facts : (who : ℕ) (kind : Kind) (objects : List ℕ) (a : Acting) (all : List Doing) (t : List Entered) (object : ℕ) (call : Call) (entry : Entry)
     → State who kind objects a (wishes.Act object call) all t → entry.call ≡ call → ActFacts a t (record { object = object; entry = entry })
 act_facts who kind objects a all t object call entry s of_call =
     let made = s.says.0 in
@@ -204,7 +204,7 @@ unsettled_no_end : (one : Aim) (reply : Reply) → unsettled (Some one) reply �
 unsettled_no_end one (replies.Needs m) is = loan_no_end (borrows one.call) m is
 unsettled_no_end one _ is = cc
 
-after_unsettled : (a : Acting) (reply : Reply) (one : Aim) → settles reply ≡ false → under_way a ≡ Some one
+pub after_unsettled : (a : Acting) (reply : Reply) (one : Aim) → settles reply ≡ false → under_way a ≡ Some one
     → next_wish a (heard.Replied reply) ≡ unsettled (Some one) reply
 after_unsettled a reply one unmet way = rw unmet (ap (λ f. unsettled f reply) way)
 

@@ -25,7 +25,7 @@ abbrev aim_on : ℕ → Call → Aim
 aim_on object call = record { object = object; call = call }
 
 -- the calls that lines make
-bringing_again : (b c : Brought) (call : Call) → bringing b (bringing c call) ≡ bringing b call
+pub bringing_again : (b c : Brought) (call : Call) → bringing b (bringing c call) ≡ bringing b call
 bringing_again b c (calls.Read piece last old) = refl
 bringing_again b c (calls.Write off bytes last old) = refl
 bringing_again b c (calls.Retry ticket old) = refl

@@ -160,7 +160,7 @@ not_settled reply is = rw is refl
 settled_not : (reply : Reply) → settles reply ≡ true → not (settles reply) ≡ false
 settled_not reply is = rw is refl
 
-no_ticket : (reply : Reply) (before : Option ℕ) → settles reply ≡ true → ticket_after reply before ≡ None
+pub no_ticket : (reply : Reply) (before : Option ℕ) → settles reply ≡ true → ticket_after reply before ≡ None
 no_ticket (replies.Needs m) before is = absurd cc
 no_ticket (replies.Blocked t) before is = absurd cc
 no_ticket replies.Waiting before is = absurd cc

@@ -6,4 +6,5 @@ pub mod Acting
 pub mod Laws
 pub mod Lives
 pub mod Rules
+pub mod Frames
 pub mod Viewing

@@ -65,6 +65,13 @@ impl Actor {
         self.who
     }
 
+    /// Which kind of answer the last wish waits for.
+    pub fn wants(&self) -> Wanted
+        ensures { result ≡ self.now.wants }
+    {
+        self.wants
+    }
+
     /// Begins a line, and says the first wish. After want of memory the actor is as it was.
     pub fn begin_line(&mut self, alloc: Global, line: &Line) -> Result<Wish, Memory>
         requires free { self.old.wants ≡ Wanted.Nothing }

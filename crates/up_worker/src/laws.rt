@@ -2,6 +2,7 @@
 
 ghost use Rattle.up_worker.specs.Laws.{MakesUnderWay, GoesOn, AsksAgain, Retries, GathersAfterNeeds, EndsRefused, LeavesOnce};
 ghost use Rattle.up_worker.specs.Lives.{IsTold};
+ghost use Rattle.up_worker.specs.Frames.{BringsGathered};
 ghost use Rattle.up_worker.specs.Rules.{KeepsRules, LeavesNothing};
 
 /// A wish to act makes the call that isn't settled yet, or the retry of the ticket under which it waits.
@@ -46,4 +47,10 @@ pub fn a_life_is_told_by_its_entries()
 pub fn a_life_keeps_the_rules()
     ensures rules { KeepsRules }
     ensures end { LeavesNothing }
+{}
+
+/// A call brings nothing at first. After a reply that asks for frames, and for a supply, it brings what a gathering or a loan brought, and the gathering's
+/// evicts stand directly before it. Lines that relieve are told otherwise.
+pub fn a_call_brings_what_was_gathered()
+    ensures { BringsGathered }
 {}

@@ -12,8 +12,8 @@ mod wishing;
 pub use actor::Actor;
 pub use course::{Aim, Doing};
 pub use laws::{
-    a_life_is_told_by_its_entries, a_life_keeps_the_rules, a_refused_access_ends,
-    a_settled_call_is_not_asked_again, a_ticket_is_retried, a_wish_makes_the_call_under_way,
-    frames_are_gathered_for_a_need, no_object_is_left_twice,
+    a_call_brings_what_was_gathered, a_life_is_told_by_its_entries, a_life_keeps_the_rules,
+    a_refused_access_ends, a_settled_call_is_not_asked_again, a_ticket_is_retried,
+    a_wish_makes_the_call_under_way, frames_are_gathered_for_a_need, no_object_is_left_twice,
 };
 pub use wish::{Heard, Wanted, Wish};

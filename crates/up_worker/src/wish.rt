@@ -1,5 +1,5 @@
 ghost use Rattle.std.specs.Prelude.{◌≡◌};
-ghost use Rattle.up_worker.specs.Wishes.{wants_after, settles, is_refused};
+ghost use Rattle.up_worker.specs.Wishes.{wants_after, answers, settles, is_refused};
 
 use up_claims::{SiteReply, SiteStep};
 use up_model::{Brought, Call, Reply};
@@ -70,6 +70,21 @@ impl Wish {
             | Wish::Age
             | Wish::Park { .. } => Wanted::Done,
             Wish::LineEnd => Wanted::Nothing,
+        }
+    }
+}
+
+impl Wanted {
+    /// Whether this is an answer of that kind.
+    pub fn accepts(self, heard: &Heard) -> bool
+        ensures { result ≡ answers self heard.now }
+    {
+        match (self, heard) {
+            (Wanted::Reply, Heard::Replied(_))
+            | (Wanted::Site, Heard::Site(_))
+            | (Wanted::Frames, Heard::Brought(_))
+            | (Wanted::Done, Heard::Done) => true,
+            _ => false,
         }
     }
 }

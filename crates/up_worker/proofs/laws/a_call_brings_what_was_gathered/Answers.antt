@@ -1,0 +1,5 @@
+use Rattle.up_worker.proofs.Framing.{brings_gathered}
+use Rattle.up_worker.proofs.laws.a_call_brings_what_was_gathered.Goals as goal
+
+pub returns : goal.returns
+returns c = brings_gathered
