@@ -1,5 +1,5 @@
 -- A retry: what waits under its ticket is what is attempted, and its reply is that of the access now.
-use Rattle.std.proofs.Common.{◌≡◌, ℕ, ◌+◌, ◌*◌, ◌%◌, ◌/◌, ◌<◌, ◌≤◌, ◌==◌, ◌&&◌, not, Bool, true, false, cond, Option, Some, None, is_some, List, [], ◌∷◌, length, refl, ap, sym, ◌∙◌, subst, arith, nat_le, nat_lt}
+use Rattle.std.proofs.Common.{◌≡◌, ℕ, ◌+◌, ◌*◌, ◌%◌, ◌<◌, ◌≤◌, ◌==◌, Bool, true, false, cond, Option, Some, None, is_some, List, [], length, refl, ap, sym, ◌∙◌, subst, arith, nat_le, nat_lt}
 use Rattle.std.proofs.lemmas.Bool.Decides.{nat_tests}
 use Rattle.up_num.specs.declared.pages.PageNo.{PageNo}
 use Rattle.up_num.specs.declared.answers.Outcome.{Outcome}
@@ -8,10 +8,10 @@ use Rattle.up_asks.specs.declared.ticket.Waiter.{Waiter}
 use Rattle.up_model.specs.Attempts.{Access, page_of, parked, attempt, is_bytes}
 use Rattle.up_model.specs.Value.{bytes_from}
 use Rattle.up_model.specs.Deeds.{reads}
-use Rattle.up_model.specs.Tickets.{next_ticket, owner, spent, outcome, keeps_ticket}
+use Rattle.up_model.specs.Tickets.{owner, spent, outcome, keeps_ticket}
 use Rattle.up_model.specs.Looks.{look_of, lacks_own_frame}
 use Rattle.up_model.specs.Reply.{proper, reply, access_reply, retry_reply, within_page, is_piece, is_by, frames_in, counts_frames}
-use Rattle.up_model.specs.Changes.{Spends, Writes}
+use Rattle.up_model.specs.Changes.{Spends}
 use Rattle.up_model.specs.Legal.{Legal}
 use Rattle.up_model.specs.declared.entry.Birth.{Birth}
 use Rattle.up_model.specs.declared.entry.Brought.{Brought}
@@ -19,7 +19,7 @@ use Rattle.up_model.specs.declared.entry.Call.TheVariants.{Retry, Write}
 use Rattle.up_model.specs.declared.entry.Entry.{Entry}
 use Rattle.up_model.specs.declared.entry.Reply.{Reply}
 use Rattle.up_model.specs.declared.entry.Reply.TheVariants as answer
-use Rattle.up_model.proofs.Bools.{and_left, and_right, not_true, nat_eq_true, nat_eq-same}
+use Rattle.up_model.proofs.Bools.{and_left, and_right, not_true, nat_eq_true}
 use Rattle.up_model.proofs.Holding.{owner_below}
 use Rattle.up_model.proofs.Resolved.{retry_spends}
 use Rattle.up_object.specs.Asks.{access_of}

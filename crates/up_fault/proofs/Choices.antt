@@ -1,8 +1,6 @@
 -- What the definitions answer to an access, by the tests that the code makes.
-use Rattle.std.proofs.Common.{◌≡◌, ℕ, ◌+◌, ◌*◌, ◌<◌, ◌≤◌, ◌&&◌, ◌||◌, not, Bool, true, false, cond, Option, Some, None, is_some, List, refl, ap, sym, ◌∙◌, subst, arith, nat_le, nat_lt}
+use Rattle.std.proofs.Common.{◌≡◌, ℕ, ◌+◌, ◌*◌, ◌<◌, ◌≤◌, ◌&&◌, ◌||◌, not, Bool, true, false, cond, Option, Some, None, is_some, List, refl, ◌∙◌, subst, arith, nat_le, nat_lt}
 use Rattle.std.proofs.lemmas.Bool.Decides.{nat_tests}
-use Rattle.up_num.specs.declared.answers.AskKind.{AskKind}
-use Rattle.up_num.specs.declared.answers.AskKind.TheVariants.{Read as ReadAsk, Dirty as DirtyAsk}
 use Rattle.up_model.specs.Attempts.{Access, page_of}
 use Rattle.up_model.specs.Size.{size, access_fits}
 use Rattle.up_model.specs.Value.{there}
@@ -20,7 +18,7 @@ use Rattle.up_fault.specs.declared.access.Attempt.{Attempt}
 use Rattle.up_fault.specs.declared.access.Verdict.{Verdict}
 use Rattle.up_fault.specs.declared.access.Verdict.TheVariants.{Decline, Done}
 use Rattle.up_object.specs.declared.step.Declined.TheVariants.{Needs}
-use Rattle.up_fault.specs.Accesses.{access_in, verdict, frame_verdict, Decided, Parking, Doing}
+use Rattle.up_fault.specs.Accesses.{access_in, verdict, frame_verdict, Decided}
 use Rattle.up_fault.proofs.Seen.{present_is, lacking_is}
 
 abbrev at : ℕ → ℕ → ℕ → Option (List ℕ) → Access

@@ -1,5 +1,5 @@
 -- Steps of loops over the pages of a range.
-use Rattle.std.proofs.Common.{◌≡◌, ℕ, ◌+◌, ◌-◌, ◌<◌, ◌≤◌, Bool, true, false, cond, zero, suc, refl, ap, sym, ◌∙◌, subst, arith}
+use Rattle.std.proofs.Common.{◌≡◌, ℕ, ◌+◌, ◌-◌, ◌<◌, Bool, true, false, cond, suc, ap, ◌∙◌, arith}
 use Rattle.up_span.specs.Runs.{run_of}
 
 suc_of : (n : ℕ) → 0 < n → n ≡ suc (n - 1)

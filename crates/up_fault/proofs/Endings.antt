@@ -1,26 +1,21 @@
 -- What the end of a call on one page asks for: other pages and their places stay.
-use Rattle.std.proofs.Common.{◌≡◌, ℕ, ◌+◌, ◌*◌, ◌/◌, ◌%◌, ◌<◌, ◌==◌, ◌&&◌, ◌||◌, not, Bool, true, false, cond, Option, Some, None, List, ◌∷◌, refl, ap, sym, ◌∙◌, subst, arith, nat_le, nat_lt}
+use Rattle.std.proofs.Common.{◌≡◌, ℕ, ◌+◌, ◌*◌, ◌%◌, ◌<◌, ◌==◌, ◌&&◌, ◌||◌, Bool, true, false, Some, None, List, refl, ap, ◌∙◌, arith, nat_le, nat_lt}
 use Rattle.std.proofs.lemmas.Bool.Decides.{nat_tests}
-use Rattle.up_num.specs.declared.answers.AskKind.{AskKind}
 use Rattle.up_num.specs.declared.answers.AskKind.TheVariants.{Dirty as DirtyAsk}
 use Rattle.up_model.specs.Attempts.{Access, page_of, accepts, is_bytes, attempt}
 use Rattle.up_model.specs.Deeds.{reads}
 use Rattle.up_model.specs.Size.{size}
 use Rattle.up_model.specs.Asks.{Ask, asked, same_kind}
-use Rattle.up_model.specs.Modified.{is_reset, is_zero_call}
-use Rattle.up_model.specs.Tickets.{next_ticket}
-use Rattle.up_model.specs.Concerns.{concerns, call_concerns, in_page, is_touch, is_retry, keeps_asks, keeps_roles, keeps_modified, keeps_size, sets_size}
+use Rattle.up_model.specs.Concerns.{concerns, call_concerns, in_page, is_touch}
 use Rattle.up_model.specs.Changes.{Parks}
 use Rattle.up_model.specs.declared.entry.Birth.{Birth}
 use Rattle.up_model.specs.declared.entry.Entry.{Entry}
 use Rattle.up_model.specs.declared.entry.Call.{Call}
 use Rattle.up_model.specs.declared.entry.Call.TheVariants as calls
 use Rattle.up_model.specs.declared.entry.Reply.{Reply}
-use Rattle.up_model.specs.declared.entry.Reply.TheVariants.{Blocked}
 use Rattle.up_model.proofs.Bools.{and_false}
-use Rattle.up_model.proofs.Kept.{kept_asks}
 use Rattle.up_model.proofs.Resolved.{parks_asked}
-use Rattle.up_object.specs.Change.{Done, is_done, Rests}
+use Rattle.up_object.specs.Change.{Done, Rests}
 
 off_page : (page p : ℕ) → (nat_le page p && nat_lt p (page + 1)) ≡ false → (page == p) ≡ false
 off_page page p out = grind (arith, nat_tests)

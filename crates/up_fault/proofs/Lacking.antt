@@ -1,5 +1,5 @@
 -- What an access asks for, by the run of pages that lack the same.
-use Rattle.std.proofs.Common.{◌≡◌, ℕ, ◌+◌, ◌-◌, ◌<◌, ◌≤◌, ◌^◌, not, Bool, true, false, List, refl, ap, sym, ◌∙◌, subst, arith, min, suc}
+use Rattle.std.proofs.Common.{◌≡◌, ℕ, ◌+◌, ◌-◌, ◌<◌, ◌≤◌, Bool, true, List, sym, ◌∙◌, arith, min, suc}
 use Rattle.up_num.specs.declared.answers.AskKind.{AskKind}
 use Rattle.up_span.specs.Runs.{run_of}
 use Rattle.up_model.specs.Attempts.{Access, page_of}

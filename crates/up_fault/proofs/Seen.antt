@@ -1,9 +1,9 @@
 -- What the look at a page tells of it.
-use Rattle.std.proofs.Common.{◌≡◌, ℕ, ◌&&◌, ◌||◌, not, Bool, true, false, List, refl, ap, sym, ◌∙◌}
+use Rattle.std.proofs.Common.{◌≡◌, ℕ, ◌&&◌, ◌||◌, not, Bool, true, false, List, refl}
 use Rattle.up_model.specs.Value.{there, marked, settled, begun}
 use Rattle.up_model.specs.States.{plain, dirty}
 use Rattle.up_model.specs.Pins.{loaned}
-use Rattle.up_model.specs.Looks.{look_by, look_of, is_present, lacks_own_frame, Missing}
+use Rattle.up_model.specs.Looks.{look_by, look_of, is_present, lacks_own_frame}
 use Rattle.up_model.specs.Legal.{Legal}
 use Rattle.up_model.specs.declared.entry.Birth.{Birth}
 use Rattle.up_model.specs.declared.entry.Entry.{Entry}

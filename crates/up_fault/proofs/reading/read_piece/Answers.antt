@@ -1,4 +1,4 @@
-use Rattle.std.proofs.Common.{refl, []}
+use Rattle.std.proofs.Common.{[]}
 use Rattle.up_fault.specs.declared.access.Verdict.TheVariants as verdict
 use Rattle.up_fault.specs.Calls.{read_attempt}
 use Rattle.up_fault.proofs.Choices.{decided_as}

@@ -1,4 +1,4 @@
-use Rattle.std.proofs.Common.{◌≡◌, refl, [], sym, ap, ◌∙◌, arith, List, ℕ}
+use Rattle.std.proofs.Common.{refl, [], sym, ap, ◌∙◌, arith, List, ℕ}
 use Rattle.up_model.specs.Attempts.{page_of}
 use Rattle.up_model.specs.Value.{bytes_from}
 use Rattle.up_model.specs.declared.entry.Reply.TheVariants.{Bytes}

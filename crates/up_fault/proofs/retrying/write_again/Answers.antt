@@ -1,4 +1,4 @@
-use Rattle.std.proofs.Common.{◌≡◌, ◌%◌, refl, [], sym, ap, ◌∙◌, arith, subst, ℕ}
+use Rattle.std.proofs.Common.{◌%◌, refl, [], sym, arith}
 use Rattle.up_model.specs.Attempts.{page_of}
 use Rattle.up_model.specs.declared.entry.Reply.TheVariants.{Done}
 use Rattle.up_model.specs.declared.entry.Entry.{Entry}

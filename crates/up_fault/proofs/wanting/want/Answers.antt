@@ -1,4 +1,4 @@
-use Rattle.std.proofs.Common.{◌≡◌, ℕ, ◌+◌, ◌-◌, ◌<◌, ◌≤◌, true, min, ap, sym, ◌∙◌, subst, arith}
+use Rattle.std.proofs.Common.{◌≡◌, ℕ, ◌+◌, ◌-◌, true, min, ap, sym, ◌∙◌, subst, arith}
 use Rattle.up_span.specs.Runs.{run_of}
 use Rattle.up_model.specs.Attempts.{page_of}
 use Rattle.up_model.specs.Size.{size}
