@@ -1,5 +1,5 @@
 -- A call that detaches the object.
-use Rattle.std.proofs.Common.{◌≡◌, ℕ, ◌+◌, ◌-◌, ◌<◌, ◌≤◌, ◌==◌, ◌&&◌, ◌||◌, not, Bool, true, false, cond, List, ◌∷◌, length, refl, ap, sym, ◌∙◌, subst, arith, nat_le, nat_lt}
+use Rattle.std.proofs.Common.{◌≡◌, ℕ, ◌<◌, ◌≤◌, ◌&&◌, true, false, List, refl, sym, ◌∙◌, arith, nat_le, nat_lt}
 use Rattle.std.proofs.lemmas.Bool.Decides.{nat_tests}
 use Rattle.up_num.specs.declared.answers.AskKind.{AskKind}
 use Rattle.up_num.specs.declared.answers.AskKind.TheVariants.{Dirty as DirtyAsk}
@@ -21,7 +21,7 @@ use Rattle.up_model.specs.declared.entry.Reply.TheVariants.{Refused, Woke}
 use Rattle.up_model.proofs.Asked.{dirty_asked}
 use Rattle.up_model.proofs.Presence.{pages_within}
 use Rattle.up_model.proofs.Resolved.{accepted_asked, detaches_accepted}
-use Rattle.up_object.specs.Change.{Done, is_done, Rests}
+use Rattle.up_object.specs.Change.{Done, Rests}
 
 pub detach_resolves : (birth : Birth) (h : List Entry) (k : AskKind) (p : ℕ) → detached birth h ≡ false → resolves birth h Detach k p ≡ DetachedOutcome
 detach_resolves birth h k p attached = rw attached refl

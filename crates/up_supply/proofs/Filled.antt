@@ -1,13 +1,10 @@
 -- The pages of a supply, one by one.
-use Rattle.std.proofs.Common.{◌≡◌, ℕ, ◌+◌, ◌-◌, ◌*◌, ◌<◌, ◌≤◌, ◌==◌, ◌&&◌, ◌||◌, not, Bool, true, false, cond, List, ◌∷◌, length, get_or, take, drop, refl, ap, sym, ◌∙◌, subst, arith, nat_le, nat_lt}
+use Rattle.std.proofs.Common.{◌≡◌, ℕ, ◌+◌, ◌-◌, ◌*◌, ◌<◌, true, List, get_or, take, drop, refl, ap, sym, ◌∙◌, subst, arith}
 use Rattle.std.proofs.lemmas.Bool.Decides.{nat_tests}
 use Rattle.std.proofs.lemmas.List.{get_or-take, get_or-drop}
 use Rattle.up_num.specs.Span.{Span, covers}
-use Rattle.up_model.specs.Attempts.{accepts}
-use Rattle.up_model.specs.Size.{size}
-use Rattle.up_model.specs.Looks.{PageLook, Missing, look_of, is_present}
+use Rattle.up_model.specs.Looks.{Missing, look_of, is_present}
 use Rattle.up_model.specs.Changes.{SamePage, Fills}
-use Rattle.up_model.specs.declared.entry.Call.TheVariants.{Supply}
 use Rattle.up_model.proofs.Touching.{supply_fills, supply_keeps}
 use Rattle.up_pages.specs.declared.page.Look.{Look}
 use Rattle.up_pages.specs.declared.page.Look.TheVariants as looks

@@ -1,5 +1,5 @@
 -- A packet that is taken.
-use Rattle.std.proofs.Common.{◌≡◌, ℕ, ◌<◌, true, false, Option, Some, None, List, [], ◌∷◌, length, zero, suc, slice_get, refl, ap, sym, ◌∙◌, arith}
+use Rattle.std.proofs.Common.{◌≡◌, ℕ, ◌<◌, Some, List, [], ◌∷◌, length, zero, suc, slice_get, refl, arith}
 use Rattle.up_num.specs.declared.answers.Packet.{Packet as PacketValue}
 use Rattle.up_model.specs.Packets.{sent, taken}
 use Rattle.up_model.specs.Changes.{TakesPacket}

@@ -1,5 +1,5 @@
 -- A leave: of the last of a role, or of another.
-use Rattle.std.proofs.Common.{◌≡◌, ℕ, ◌+◌, ◌-◌, ◌<◌, ◌≤◌, ◌==◌, ◌&&◌, ◌||◌, not, Bool, true, false, cond, Option, Some, None, List, [], ◌∷◌, length, zero, suc, refl, ap, sym, ◌∙◌, subst, arith, nat_le, nat_lt}
+use Rattle.std.proofs.Common.{◌≡◌, ℕ, ◌+◌, ◌-◌, ◌==◌, ◌&&◌, ◌||◌, not, Bool, true, false, Option, Some, None, List, [], ◌∷◌, length, zero, suc, refl, ap, sym, ◌∙◌, arith}
 use Rattle.std.proofs.lemmas.Bool.Decides.{nat_tests}
 use Rattle.up_num.specs.declared.answers.AskKind.{AskKind}
 use Rattle.up_num.specs.declared.answers.Outcome.{Outcome}
@@ -7,7 +7,6 @@ use Rattle.up_num.specs.declared.answers.Outcome.TheVariants.{Waiting, Detached 
 use Rattle.up_num.specs.declared.answers.Refusal.TheVariants as refusal
 use Rattle.up_num.specs.Asks.{Ask}
 use Rattle.up_asks.specs.Asking.{events_of}
-use Rattle.up_model.specs.Attempts.{accepts}
 use Rattle.up_model.specs.Asks.{resolves, is_waiting}
 use Rattle.up_model.specs.Roles.{users, pagers, was_detached, detached, detaches, in_role}
 use Rattle.up_model.specs.Tickets.{next_ticket, outcome, waits, wakes, woken_from, woken, resolved_for}
@@ -19,7 +18,6 @@ use Rattle.up_model.specs.declared.entry.Call.TheVariants.{Leave}
 use Rattle.up_model.specs.declared.entry.Entry.{Entry}
 use Rattle.up_model.specs.declared.entry.Role.{Role}
 use Rattle.up_model.specs.declared.entry.Role.TheVariants.{User, Pager}
-use Rattle.up_model.specs.declared.entry.Reply.{Reply}
 use Rattle.up_model.specs.declared.entry.Reply.TheVariants.{Refused, Left}
 use Rattle.up_model.proofs.Bools.{and_false}
 use Rattle.up_model.proofs.Fates.{detached_stays}

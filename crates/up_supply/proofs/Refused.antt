@@ -1,5 +1,5 @@
 -- Why a supply or a fail is refused, and what follows where it isn't.
-use Rattle.std.proofs.Common.{◌≡◌, ℕ, ◌+◌, ◌<◌, ◌≤◌, ◌==◌, ◌&&◌, not, Bool, true, false, cond, Option, Some, None, List, refl, ap, sym, ◌∙◌, subst, arith, nat_le, nat_lt, length, ◌*◌}
+use Rattle.std.proofs.Common.{◌≡◌, ℕ, ◌+◌, ◌≤◌, ◌==◌, not, Bool, true, false, cond, Some, None, List, refl, ap, ◌∙◌, arith, length, ◌*◌}
 use Rattle.std.proofs.lemmas.Bool.Decides.{nat_tests}
 use Rattle.up_num.specs.Span.{Span}
 use Rattle.up_num.specs.declared.answers.Code.{Code}
@@ -8,11 +8,11 @@ use Rattle.up_num.specs.declared.answers.Refusal.TheVariants as refusal
 use Rattle.up_model.specs.Size.{size, range_fits}
 use Rattle.up_model.specs.Roles.{detached}
 use Rattle.up_model.specs.Tickets.{woken}
-use Rattle.up_model.specs.Reply.{refuse_where, is_scan, missing, reply, proper, brings, counts_frames, frames_in}
+use Rattle.up_model.specs.Reply.{refuse_where, is_scan, missing, reply, proper, brings, frames_in}
 use Rattle.up_model.specs.declared.entry.Birth.{Birth}
 use Rattle.up_model.specs.declared.entry.Brought.{Brought}
 use Rattle.up_model.specs.declared.entry.Brought.TheVariants.{Nothing, Frames, Scanned}
-use Rattle.up_model.specs.declared.entry.Call.TheVariants.{Supply, Fail}
+use Rattle.up_model.specs.declared.entry.Call.TheVariants.{Fail}
 use Rattle.up_model.specs.declared.entry.Entry.{Entry}
 use Rattle.up_model.specs.declared.entry.Reply.{Reply}
 use Rattle.up_model.specs.declared.entry.Reply.TheVariants.{Refused, Took, Woke}

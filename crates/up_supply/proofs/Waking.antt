@@ -1,5 +1,5 @@
 -- What the events of a call say is what the definitions say of it.
-use Rattle.std.proofs.Common.{◌≡◌, ℕ, ◌+◌, ◌&&◌, ◌||◌, not, Bool, true, false, cond, List, [], ◌∷◌, refl, ap, sym, ◌∙◌, nat_le, nat_lt}
+use Rattle.std.proofs.Common.{◌≡◌, ℕ, ◌&&◌, Bool, true, false, cond, List, [], ◌∷◌, refl, ap, sym, ◌∙◌}
 use Rattle.up_num.specs.Span.{Span, covers}
 use Rattle.up_num.specs.declared.answers.AskKind.{AskKind}
 use Rattle.up_num.specs.declared.answers.AskKind.TheVariants.{Read as ReadAsk, Dirty as DirtyAsk}
@@ -9,9 +9,7 @@ use Rattle.up_num.specs.declared.answers.Outcome.TheVariants.{Waiting, Freed, Fa
 use Rattle.up_asks.specs.Asking.{events_of}
 use Rattle.up_model.specs.Attempts.{accepts}
 use Rattle.up_model.specs.Asks.{resolves, asked, is_waiting}
-use Rattle.up_model.specs.Roles.{detached}
 use Rattle.up_model.specs.Packets.{is_packet}
-use Rattle.up_model.specs.Concerns.{keeps_roles}
 use Rattle.up_model.specs.Changes.{Happens}
 use Rattle.up_model.specs.declared.entry.Birth.{Birth}
 use Rattle.up_model.specs.declared.entry.Brought.{Brought}
@@ -19,7 +17,6 @@ use Rattle.up_model.specs.declared.entry.Call.TheVariants.{Supply, Fail}
 use Rattle.up_model.specs.declared.entry.Entry.{Entry}
 use Rattle.up_model.proofs.Kept.{kept_roles}
 use Rattle.up_model.proofs.Resolved.{accepted_asked, happens_accepted}
-use Rattle.up_object.specs.Change.{Done, is_done, Rests}
 use Rattle.up_supply.specs.Calls.{supply_event, read_failed, dirty_failed}
 
 freed_once : (b : Bool) (range : Span) (p : ℕ) → covers range p ≡ b → cond b Freed Waiting ≡ events_of (supply_event range ∷ []) ReadAsk p

@@ -1,5 +1,5 @@
 -- The calls of this crate, why they are refused, and what they do to those who wait.
-use Rattle.std.specs.Prelude.{◌≡◌, ℕ, ◌*◌, ◌==◌, not, Bool, true, false, cond, Option, Some, None, List, [], ◌∷◌, length}
+use Rattle.std.specs.Prelude.{◌≡◌, ℕ, ◌*◌, not, Bool, true, false, cond, Option, Some, None, List, length}
 use Rattle.up_num.specs.Span.{Span}
 use Rattle.up_num.specs.declared.answers.AskKind.TheVariants.{Read as ReadAsk, Dirty as DirtyAsk}
 use Rattle.up_num.specs.declared.answers.Code.{Code}
@@ -9,11 +9,11 @@ use Rattle.up_num.specs.declared.answers.Refusal.TheVariants as refusal
 use Rattle.up_bank.specs.Standing.{Held as Frame}
 use Rattle.up_asks.specs.declared.event.Event.{Event}
 use Rattle.up_model.specs.Size.{range_fits}
-use Rattle.up_model.specs.Roles.{detached, in_role}
+use Rattle.up_model.specs.Roles.{detached}
 use Rattle.up_model.specs.Reply.{is_scan}
 use Rattle.up_model.specs.declared.entry.Birth.{Birth}
 use Rattle.up_model.specs.declared.entry.Call.{Call}
-use Rattle.up_model.specs.declared.entry.Call.TheVariants.{Supply, Fail, Tell}
+use Rattle.up_model.specs.declared.entry.Call.TheVariants.{Supply, Tell}
 use Rattle.up_model.specs.declared.entry.Entry.{Entry}
 use Rattle.up_model.specs.declared.entry.Role.{Role}
 use Rattle.up_model.specs.declared.entry.Role.TheVariants.{User, Pager}

@@ -1,6 +1,5 @@
 -- A supply in the middle of its pages.
-use Rattle.std.specs.Prelude.{◌≡◌, ℕ, ◌+◌, ◌*◌, ◌<◌, ◌≤◌, true, false, List, length}
-use Rattle.up_num.specs.Span.{Span}
+use Rattle.std.specs.Prelude.{◌≡◌, ℕ, ◌+◌, ◌*◌, ◌≤◌, true, false, List, length}
 use Rattle.up_model.specs.Attempts.{accepts}
 use Rattle.up_model.specs.Size.{size}
 use Rattle.up_model.specs.Legal.{Legal}

@@ -1,4 +1,4 @@
-use Rattle.std.proofs.Common.{◌≡◌, ℕ, List, ap, sym, ◌∙◌}
+use Rattle.std.proofs.Common.{ℕ, List, ap, sym, ◌∙◌}
 use Rattle.up_model.specs.declared.entry.Reply.TheVariants.{Woke}
 use Rattle.up_supply.proofs.Refused.{fail_passes, fail_woken}
 use Rattle.up_supply.proofs.failing.wake_failed.Goals as goal

@@ -1,4 +1,4 @@
-use Rattle.std.proofs.Common.{◌≡◌, ◌+◌, ◌-◌, ◌≤◌}
+use Rattle.std.proofs.Common.{◌≡◌, ◌+◌, ◌≤◌}
 use Rattle.up_supply.specs.Fillings.{Filling, filled}
 use Rattle.up_supply.proofs.supplying.fill_all.Given as goal
 

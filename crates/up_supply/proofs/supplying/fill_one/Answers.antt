@@ -1,4 +1,4 @@
-use Rattle.std.proofs.Common.{◌≡◌, ap, sym, ◌∙◌, arith}
+use Rattle.std.proofs.Common.{ap, sym, ◌∙◌, arith}
 use Rattle.up_model.specs.Looks.{is_present}
 use Rattle.up_object.specs.Parts.{shown}
 use Rattle.up_supply.proofs.Filled.{here_fills, here_keeps, piece_byte, present_unless}

@@ -1,4 +1,4 @@
-use Rattle.std.proofs.Common.{◌≡◌, ℕ, List, ap, sym, ◌∙◌}
+use Rattle.std.proofs.Common.{sym, ◌∙◌}
 use Rattle.up_model.specs.declared.entry.Reply.TheVariants.{Took}
 use Rattle.up_supply.proofs.Refused.{supply_passes, supply_full, supply_taken}
 use Rattle.up_supply.proofs.supplying.fill_range.Goals as goal
