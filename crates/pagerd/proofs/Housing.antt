@@ -25,9 +25,9 @@ fixed_size birth (e ∷ before) legal fixed =
 few_pass : (test : ℕ → Bool) (p n : ℕ) → count_pages test p n ≤ n
 few_pass test p zero = omega arith
 few_pass test p (suc n) = elim (test p) as (λ b. cond b (suc (count_pages test (p + 1) n)) (count_pages test (p + 1) n) ≤ suc n) [
-    | true ↦ let less = few_pass test (p + 1) n in omega arith
-    | false ↦ let less = few_pass test (p + 1) n in omega arith
-  ]
+  | true ↦ let less = few_pass test (p + 1) n in omega arith
+  | false ↦ let less = few_pass test (p + 1) n in omega arith
+]
 
 pub few_held : (birth : Birth) (h : List Entry) (kind : FrameKind) → Legal birth h → birth.limit ≡ None → held birth h kind ≤ birth.pages
 few_held birth h kind legal fixed = subst (λ (n : ℕ). held birth h kind ≤ n) (fixed_size birth h legal fixed) (few_pass (λ p. is_framed_by kind (look_of birth h p)) 0 (size birth h))

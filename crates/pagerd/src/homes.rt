@@ -85,7 +85,14 @@ impl Home {
         ensures ok { OnOk result (self.new ≡ legal.after self.old who epoch (retry_call ticket)) }
         ensures err { OnErr result (self.new ≡ self.old) }
     {
-        match retry(&mut self.object, alloc, who, epoch, ticket, FramesIn::NoneYet) {
+        match retry(
+            &mut self.object,
+            alloc,
+            who,
+            epoch,
+            ticket,
+            FramesIn::NoneYet,
+        ) {
             Ok(Stepped { reply, back }) => {
                 self.pool.bring_home(back);
                 Ok(reply)

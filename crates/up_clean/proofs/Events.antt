@@ -8,10 +8,9 @@ use Rattle.up_num.specs.declared.answers.Outcome.TheVariants.{Waiting, Freed}
 use Rattle.up_num.specs.Asks.{then_outcome}
 use Rattle.up_span.specs.Pages.{count_pages, list_pages}
 use Rattle.up_span.proofs.Ranges.{counts_listed}
-use Rattle.up_asks.specs.Asking.{event_of, events_of}
+use Rattle.up_asks.specs.Asking.{events_of}
 use Rattle.up_asks.specs.Keeps.{AllFixed}
 use Rattle.up_asks.specs.declared.event.Event.{Event}
-use Rattle.up_model.specs.Attempts.{accepts}
 use Rattle.up_model.specs.States.{empty_at_end}
 use Rattle.up_model.specs.Asks.{resolves}
 use Rattle.up_model.specs.Ordering.{lists}

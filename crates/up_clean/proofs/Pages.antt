@@ -1,11 +1,11 @@
 -- What a call makes of a page: as the change of its state, and what the tests of its look say.
-use Rattle.std.proofs.Common.{◌≡◌, ℕ, ◌&&◌, not, Bool, true, false, List, ◌∷◌, refl, ap, sym, ◌∙◌, subst}
+use Rattle.std.proofs.Common.{◌≡◌, ℕ, ◌&&◌, not, Bool, true, false, List, refl, ap, sym, ◌∙◌, subst}
 use Rattle.up_num.specs.declared.answers.PageState.{PageState}
 use Rattle.up_num.specs.declared.answers.PageState.TheVariants.{Clean, Dirty, AwaitingClean}
 use Rattle.up_model.specs.Value.{there, marked, begun, settled}
 use Rattle.up_model.specs.States.{empty_at_end}
 use Rattle.up_model.specs.Pins.{loaned}
-use Rattle.up_model.specs.Looks.{PageLook, Missing, Zeros, Framed, state_by, look_by, look_of, is_present, has_frame, has_loan, with_state, ended_look, dirtied_look}
+use Rattle.up_model.specs.Looks.{PageLook, Missing, Zeros, Framed, look_by, look_of, is_present, has_frame, has_loan, with_state, ended_look, dirtied_look}
 use Rattle.up_model.specs.Changes.{Turns, SetsState, Reframes}
 use Rattle.up_model.specs.declared.entry.Birth.{Birth}
 use Rattle.up_model.specs.declared.entry.Entry.{Entry}

@@ -1,4 +1,3 @@
-use Rattle.std.proofs.Common.{◌≡◌}
 use Rattle.up_model.specs.Looks.{begun_look}
 use Rattle.up_model.proofs.Touching.{begin_turns}
 use Rattle.up_clean.proofs.Pages.{turned_is_set}

@@ -1,4 +1,4 @@
-use Rattle.std.proofs.Common.{◌≡◌, ◌<◌, ap, ◌∙◌, arith}
+use Rattle.std.proofs.Common.{◌<◌, ap, ◌∙◌, arith}
 use Rattle.up_object.specs.Change.{Change, next}
 use Rattle.up_object.proofs.Ranged.{further_none, further_next, covered_at}
 use Rattle.up_clean.proofs.beginning.begin_pages.Goals as goal

@@ -1,4 +1,3 @@
-use Rattle.std.proofs.Common.{◌≡◌}
 use Rattle.up_clean.proofs.Events.{dirty_due}
 use Rattle.up_clean.proofs.dirtying.dirty_freeing.Goals as goal
 

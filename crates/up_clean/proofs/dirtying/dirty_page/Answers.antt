@@ -1,4 +1,4 @@
-use Rattle.std.proofs.Common.{◌≡◌, ◌∙◌, sym, ap, true, false}
+use Rattle.std.proofs.Common.{◌∙◌, sym, ap}
 use Rattle.up_num.specs.declared.answers.PageState.TheVariants.{Dirty}
 use Rattle.up_model.specs.Looks.{has_loan, dirtied_look}
 use Rattle.up_model.proofs.Touching.{dirty_turns}

@@ -1,4 +1,4 @@
-use Rattle.std.proofs.Common.{◌≡◌, ◌<◌, ◌+◌, ◌-◌, ◌≤◌, arith}
+use Rattle.std.proofs.Common.{◌≡◌, ◌<◌, ◌+◌, ◌-◌, arith}
 use Rattle.up_span.specs.Pages.{count_pages}
 use Rattle.up_object.proofs.Ranged.{covered_at}
 use Rattle.up_clean.specs.Dirties.{lent}

@@ -1,4 +1,3 @@
-use Rattle.std.proofs.Common.{◌≡◌}
 use Rattle.up_model.specs.Tickets.{woken}
 use Rattle.up_model.specs.declared.entry.Call.TheVariants.{Dirty}
 use Rattle.up_model.specs.declared.entry.Reply.TheVariants.{Woke}

@@ -1,4 +1,4 @@
-use Rattle.std.proofs.Common.{◌≡◌, ◌∙◌, sym, ap, true, false}
+use Rattle.std.proofs.Common.{◌∙◌, sym, ap}
 use Rattle.up_model.specs.Looks.{ended_look}
 use Rattle.up_model.proofs.Touching.{end_goes, end_turns}
 use Rattle.up_clean.specs.Ends.{goes_at_end}

@@ -1,4 +1,4 @@
-use Rattle.std.proofs.Common.{◌≡◌, ◌∙◌, ap}
+use Rattle.std.proofs.Common.{◌∙◌, ap}
 use Rattle.up_clean.specs.Ends.{goes_at_end}
 use Rattle.up_clean.proofs.Pages.{goes_is}
 use Rattle.up_clean.proofs.ending.is_emptied.Goals as goal
