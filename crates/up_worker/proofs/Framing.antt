@@ -1,5 +1,5 @@
 -- The calls of a life bring what its gatherings brought, for every judge of gatherings.
-use Rattle.std.proofs.Common.{◌≡◌, ℕ, ◌+◌, ◌==◌, ◌⊎◌, ◌++◌, Bool, true, false, cond, is_some, Option, Some, None, List, [], ◌∷◌, length, refl, sym, ap, ◌∙◌, subst, inl, inr, slice_get, arith, ◌&&◌}
+use Rattle.std.proofs.Common.{◌≡◌, ℕ, ◌==◌, ◌⊎◌, ◌++◌, Bool, true, false, cond, is_some, Option, Some, None, List, [], ◌∷◌, refl, sym, ap, ◌∙◌, subst, inl, inr, arith, ◌&&◌}
 use Rattle.std.proofs.lemmas.Bool.Decides.{nat_tests}
 use Rattle.up_model.specs.declared.entry.Brought.{Brought}
 use Rattle.up_model.specs.declared.entry.Brought.TheVariants.{Nothing}
@@ -12,12 +12,12 @@ use Rattle.up_script.specs.declared.script.Action.{Action}
 use Rattle.up_script.specs.declared.script.Action.TheVariants as actions
 use Rattle.up_script.specs.declared.script.Kind.{Kind}
 use Rattle.up_worker.specs.Acting.{Acting, unborn, under_way, hears, first_wish, started, next_wish, next_acting}
-use Rattle.up_worker.specs.Calls.{bringing, bare, borrows, frames_before, is_access}
+use Rattle.up_worker.specs.Calls.{bringing, borrows, frames_before, is_access}
 use Rattle.up_worker.specs.Wishes.{attempt, settles, is_refused, ticket_after, act_on, makes, last_of, last_wish, begins_call, unsettled}
 use Rattle.up_worker.specs.Lives.{is_told, Entered, Event, Begins, Hears, leads, tale, lines, is_evict, Lived, Carries, MakesOne, ResizesOne, OwnEvicts, GathersSome, DoneWithout}
-use Rattle.up_worker.specs.Frames.{Judge, JudgedWish, Judged, is_quiet, QuietLines, front, behind, needed, asked, IsBare, IsGathered, IsLent, HasFrames, FramesIn, loose, BringsGathered}
+use Rattle.up_worker.specs.Frames.{Judge, JudgedWish, Judged, is_quiet, QuietLines, front, behind, needed, asked, HasFrames, FramesIn, loose, BringsGathered}
 use Rattle.up_worker.proofs.Saying.{bringing_again}
-use Rattle.up_worker.proofs.Telling.{State, state_start, state_begins, state_hears, no_ticket, none_own}
+use Rattle.up_worker.proofs.Telling.{State, state_start, state_begins, state_hears, no_ticket}
 use Rattle.up_worker.proofs.Wished.{asks_again}
 use Rattle.up_worker.proofs.Ruling.{ActFacts, act_facts, after_unsettled}
 use Rattle.up_worker.specs.declared.course.Aim.{Aim}

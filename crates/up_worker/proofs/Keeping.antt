@@ -1,5 +1,5 @@
 -- What every answer keeps of an actor.
-use Rattle.std.proofs.Common.{◌≡◌, ℕ, zero, suc, ◌+◌, ◌^◌, ◌<◌, ◌≤◌, ◌==◌, ◌&&◌, not, Bool, true, false, cond, is_some, Option, Some, None, List, [], ◌∷◌, length, map, refl, sym, ap, ◌∙◌, subst, arith, slice_get}
+use Rattle.std.proofs.Common.{◌≡◌, ℕ, ◌+◌, ◌<◌, ◌≤◌, ◌&&◌, not, Bool, true, false, cond, is_some, Option, Some, None, List, [], ◌∷◌, length, refl, sym, ap, ◌∙◌, subst, arith, slice_get}
 use Rattle.std.specs.List.{filter}
 use Rattle.std.proofs.lemmas.List.{length-map}
 use Rattle.std.proofs.lemmas.Option.{slice_get_within}
@@ -7,8 +7,6 @@ use Rattle.std.proofs.lemmas.Bool.Decides.{nat_tests}
 use Rattle.up_num.specs.Pieces.{pieces}
 use Rattle.up_model.specs.declared.entry.Brought.{Brought}
 use Rattle.up_model.specs.declared.entry.Brought.TheVariants.{Nothing}
-use Rattle.up_model.specs.declared.entry.Call.{Call}
-use Rattle.up_model.specs.declared.entry.Call.TheVariants as calls
 use Rattle.up_model.specs.declared.entry.Reply.{Reply}
 use Rattle.up_model.specs.declared.entry.Reply.TheVariants as replies
 use Rattle.up_script.specs.Objects.{is_evictor}
@@ -17,11 +15,11 @@ use Rattle.up_script.specs.declared.script.Action.TheVariants as actions
 use Rattle.up_claims.specs.declared.step.SiteReply.{SiteReply}
 use Rattle.up_script.specs.declared.script.Kind.{Kind}
 use Rattle.up_worker.specs.Acting.{Acting, Sound, under_way, hears, next_wish, next_acting, begun, first_wish, started, is_for_call, to_leave, has}
-use Rattle.up_worker.specs.Calls.{calls_in, calls_of, bringing, frames_before, borrows, is_access, fits_line, fits_limits, read_of, write_of, vacate_of, leave_of}
+use Rattle.up_worker.specs.Calls.{calls_in, calls_of, is_access, fits_line, fits_limits, read_of, write_of, vacate_of, leave_of}
 use Rattle.up_worker.specs.Placing.{place_after}
 use Rattle.up_worker.specs.Viewing.{acting_of}
 use Rattle.up_worker.specs.declared.wishing.Place.{Place}
-use Rattle.up_worker.specs.Wishes.{wants_after, answers, attempt, settles, is_refused, act_on, makes, last_of, last_wish, begins_call, wants_frames, parks, unsettled, after_reply, wish_after}
+use Rattle.up_worker.specs.Wishes.{wants_after, answers, settles, is_refused, makes, last_of, last_wish, begins_call, unsettled, wish_after}
 use Rattle.up_worker.proofs.PieceAt.{pieces_few}
 use Rattle.up_worker.specs.declared.course.Aim.{Aim}
 use Rattle.up_worker.specs.declared.course.Doing.{Doing}

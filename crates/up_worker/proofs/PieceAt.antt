@@ -1,17 +1,9 @@
 -- The piece at a place of an access, and how many calls a line has.
-use Rattle.std.proofs.Common.{◌≡◌, ℕ, zero, suc, ◌+◌, ◌-◌, ◌*◌, ◌/◌, ◌^◌, ◌<◌, ◌≤◌, ◌==◌, Bool, true, false, cond, max, min, is_some, Option, Some, None, List, [], ◌∷◌, length, map, nat_le, nat_lt, refl, sym, ap, ◌∙◌, subst, arith, slice_get}
+use Rattle.std.proofs.Common.{◌≡◌, ℕ, zero, suc, ◌+◌, ◌-◌, ◌*◌, ◌/◌, ◌<◌, ◌≤◌, ◌==◌, true, false, max, min, Some, None, length, refl, sym, ap, ◌∙◌, subst, arith, slice_get}
 use Rattle.std.proofs.lemmas.Bool.{eq-eqb, ne_eqb}
-use Rattle.std.proofs.lemmas.Bool.Decides.{nat_tests}
-use Rattle.std.proofs.lemmas.Option.{slice_get-map, slice_get_past, slice_get_within}
+use Rattle.std.proofs.lemmas.Option.{slice_get_past}
 use Rattle.up_num.specs.Pieces.{piece_in, pieces_in, pages_between, pieces}
 use Rattle.up_num.specs.declared.pages.Piece.{Piece}
-use Rattle.up_script.specs.declared.script.Action.{Action}
-use Rattle.up_script.specs.declared.script.Action.TheVariants as actions
-use Rattle.up_script.specs.declared.script.Kind.{Kind}
-use Rattle.up_worker.specs.Calls.{calls_in, calls_of, fits_line, fits_limits, read_of, write_of, vacate_of, leave_of}
-use Rattle.up_worker.specs.declared.course.Aim.{Aim}
-use Rattle.up_worker.specs.declared.course.Doing.{Doing}
-use Rattle.up_worker.specs.declared.course.Doing.TheVariants.{Idle, OneLine, Leaving}
 
 in_at : (off end p n i : ℕ) → i < n → slice_get (pieces_in off end p n) i ≡ Some (piece_in off end (p + i))
 in_at off end p zero i below = absurd (omega arith)

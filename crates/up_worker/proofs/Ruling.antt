@@ -1,5 +1,5 @@
 -- A life keeps the rules on its entries.
-use Rattle.std.proofs.Common.{◌≡◌, ℕ, ◌+◌, ◌==◌, ◌&&◌, ◌⊎◌, ◌++◌, not, Bool, true, false, cond, is_some, Option, Some, None, List, [], ◌∷◌, length, refl, sym, ap, ◌∙◌, subst, inl, inr, slice_get}
+use Rattle.std.proofs.Common.{◌≡◌, ℕ, ◌⊎◌, ◌++◌, Bool, true, false, cond, is_some, Option, Some, None, List, [], ◌∷◌, length, refl, sym, ap, ◌∙◌, subst, inl, inr}
 use Rattle.up_model.specs.declared.entry.Brought.{Brought}
 use Rattle.up_model.specs.declared.entry.Brought.TheVariants.{Nothing}
 use Rattle.up_model.specs.declared.entry.Call.{Call}
@@ -10,11 +10,11 @@ use Rattle.up_model.specs.declared.entry.Reply.TheVariants as replies
 use Rattle.up_claims.specs.declared.step.SiteReply.TheVariants as sites
 use Rattle.up_script.specs.declared.script.Kind.{Kind}
 use Rattle.up_worker.specs.Acting.{Acting, unborn, under_way, first_wish, started, next_wish, next_acting}
-use Rattle.up_worker.specs.Calls.{calls_of, bringing, borrows}
+use Rattle.up_worker.specs.Calls.{bringing, borrows}
 use Rattle.up_worker.specs.Wishes.{attempt, settles, ticket_after, act_on, makes, unsettled}
-use Rattle.up_worker.specs.Lives.{is_evict, Entered, Event, Begins, Hears, leads, tale, lines, Lived, Carries, MakesOne, ResizesOne, OwnEvicts, GathersSome, DoneWithout, is_told, attempted, attempt_at, aim_in}
+use Rattle.up_worker.specs.Lives.{is_evict, Entered, Event, Begins, Hears, leads, tale, lines, Lived, Carries, MakesOne, ResizesOne, OwnEvicts, GathersSome, is_told, attempted, attempt_at, aim_in}
 use Rattle.up_worker.specs.Rules.{pending, Held, held_after, held, Keeps, Rules, KeepsRules, LeavesNothing}
-use Rattle.up_worker.proofs.Saying.{IsGood, good, Says, IsFor, is_for}
+use Rattle.up_worker.proofs.Saying.{good, is_for}
 use Rattle.up_worker.proofs.Telling.{State, state_start, state_begins, state_hears, none_own}
 use Rattle.up_worker.proofs.Wished.{asks_again}
 use Rattle.up_worker.specs.declared.course.Aim.{Aim}

@@ -1,8 +1,6 @@
 -- What holds of an actor while a wish of it stands.
-use Rattle.std.proofs.Common.{◌≡◌, ℕ, zero, suc, ◌+◌, ◌<◌, ◌≤◌, ◌==◌, ◌&&◌, ◌||◌, ◌⊎◌, ◌++◌, not, Bool, true, false, cond, is_some, Option, Some, None, List, [], ◌∷◌, length, map, refl, sym, ap, ◌∙◌, subst, arith, inl, inr, slice_get}
-use Rattle.std.proofs.lemmas.Bool.Decides.{nat_tests}
+use Rattle.std.proofs.Common.{◌≡◌, ℕ, zero, suc, ◌==◌, ◌⊎◌, Bool, true, false, cond, is_some, Option, Some, None, List, [], ◌∷◌, length, map, refl, sym, ap, ◌∙◌, subst, inl, slice_get}
 use Rattle.up_num.specs.Pieces.{pieces}
-use Rattle.up_num.specs.declared.pages.Piece.{Piece}
 use Rattle.up_model.specs.declared.entry.Brought.{Brought}
 use Rattle.up_model.specs.declared.entry.Brought.TheVariants.{Nothing}
 use Rattle.up_model.specs.declared.entry.Call.{Call}
@@ -13,7 +11,7 @@ use Rattle.up_script.specs.declared.script.Action.{Action}
 use Rattle.up_script.specs.declared.script.Action.TheVariants as actions
 use Rattle.up_script.specs.declared.script.Kind.{Kind}
 use Rattle.up_worker.specs.Calls.{bringing, bare, calls_in, calls_of, frames_before, borrows, is_access, read_of, write_of, vacate_of, leave_of}
-use Rattle.up_worker.specs.Wishes.{attempt, settles, is_refused, act_on, makes, last_of, last_wish, begins_call, wants_frames, parks, unsettled}
+use Rattle.up_worker.specs.Wishes.{attempt, act_on, makes, last_of, last_wish, begins_call, parks, unsettled}
 use Rattle.up_worker.specs.Lives.{is_evict, is_retry, is_told_call, is_told_line, is_told, attempted, Main, any_refused, last_refused}
 use Rattle.up_worker.specs.declared.course.Aim.{Aim}
 use Rattle.up_worker.specs.declared.course.Doing.{Doing}

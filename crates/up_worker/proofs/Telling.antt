@@ -1,12 +1,10 @@
 -- A life is told by its entries: what its events keep, one after the other.
-use Rattle.std.proofs.Common.{◌≡◌, ℕ, zero, suc, ◌+◌, ◌<◌, ◌≤◌, ◌==◌, ◌&&◌, ◌||◌, ◌⊎◌, ◌++◌, not, Bool, true, false, cond, is_some, Option, Some, None, List, [], ◌∷◌, length, refl, sym, ap, ◌∙◌, subst, arith, inl, inr, slice_get}
+use Rattle.std.proofs.Common.{◌≡◌, ℕ, suc, ◌+◌, ◌==◌, ◌&&◌, ◌||◌, ◌++◌, not, Bool, true, false, cond, is_some, Option, Some, None, List, [], ◌∷◌, length, refl, sym, ap, ◌∙◌, subst, arith, inl, inr, slice_get}
 use Rattle.std.proofs.lemmas.Bool.Decides.{nat_tests}
 use Rattle.up_model.specs.Attempts.{blocks}
-use Rattle.up_model.specs.declared.entry.Brought.{Brought}
 use Rattle.up_model.specs.declared.entry.Brought.TheVariants.{Nothing}
 use Rattle.up_model.specs.declared.entry.Call.{Call}
 use Rattle.up_model.specs.declared.entry.Call.TheVariants as calls
-use Rattle.up_model.specs.declared.entry.Entry.{Entry}
 use Rattle.up_model.specs.declared.entry.Reply.{Reply}
 use Rattle.up_model.specs.declared.entry.Reply.TheVariants as replies
 use Rattle.up_claims.specs.declared.step.SiteReply.TheVariants as sites
@@ -14,11 +12,11 @@ use Rattle.up_script.specs.declared.script.Kind.{Kind}
 use Rattle.up_worker.specs.Acting.{Acting, unborn, left_after, first_wish, started, next_wish, next_acting}
 use Rattle.up_worker.specs.Calls.{calls_of, borrows, is_access}
 use Rattle.up_worker.specs.Wishes.{wants_after, settles, is_refused, ticket_after, makes, begins_call, parks, unsettled}
-use Rattle.up_worker.specs.Lives.{is_evict, gives_pages, Entered, Event, Begins, Hears, leads, tale, lines, Lived, Carries, MakesOne, ResizesOne, OwnEvicts, GathersSome, DoneWithout, is_told, is_waiting, is_retry, attempted, attempt_at, aim_in, is_aid, Main, mains, any_refused, last_refused, Follows, IsWhole, GivenBy, IsTold}
-use Rattle.up_worker.proofs.Saying.{IsGood, good, access_keeps, Made, Free, Says, says_begins, says_makes, says_unsettled, says_done, says_goes_on, IsFor, is_for}
+use Rattle.up_worker.specs.Lives.{is_evict, gives_pages, Entered, Event, Begins, Hears, leads, tale, lines, Lived, Carries, MakesOne, ResizesOne, OwnEvicts, GathersSome, is_told, is_waiting, is_retry, attempted, attempt_at, aim_in, is_aid, Main, mains, any_refused, Follows, IsWhole, GivenBy, IsTold}
+use Rattle.up_worker.proofs.Saying.{good, access_keeps, Made, Free, Says, says_begins, says_makes, says_unsettled, says_done, says_goes_on, IsFor, is_for}
 use Rattle.up_worker.specs.declared.course.Aim.{Aim}
 use Rattle.up_worker.specs.declared.course.Doing.{Doing}
-use Rattle.up_worker.specs.declared.course.Doing.TheVariants.{Idle, OneLine, Leaving}
+use Rattle.up_worker.specs.declared.course.Doing.TheVariants.{Idle}
 use Rattle.up_worker.specs.declared.wish.Heard.{Heard}
 use Rattle.up_worker.specs.declared.wish.Heard.TheVariants as heard
 use Rattle.up_worker.specs.declared.wish.Wanted.{Wanted}

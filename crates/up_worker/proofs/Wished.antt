@@ -1,8 +1,7 @@
 -- What follows from a wish.
-use Rattle.std.proofs.Common.{◌≡◌, ℕ, zero, suc, ◌+◌, ◌<◌, ◌≤◌, ◌==◌, ◌&&◌, ◌||◌, ◌⊎◌, not, Bool, true, false, cond, is_some, Option, Some, None, List, [], ◌∷◌, length, refl, sym, ap, ◌∙◌, subst, arith, inl, inr, slice_get}
-use Rattle.std.specs.List.{list_any, filter}
+use Rattle.std.proofs.Common.{◌≡◌, ℕ, ◌==◌, ◌&&◌, ◌||◌, ◌⊎◌, not, Bool, true, false, cond, is_some, Option, Some, None, List, [], ◌∷◌, refl, sym, ap, subst, arith, inl, inr}
+use Rattle.std.specs.List.{filter}
 use Rattle.std.proofs.lemmas.Bool.Decides.{nat_tests}
-use Rattle.up_num.specs.declared.answers.Refusal.{Refusal}
 use Rattle.up_model.specs.declared.entry.Brought.{Brought}
 use Rattle.up_model.specs.declared.entry.Brought.TheVariants.{Nothing}
 use Rattle.up_model.specs.declared.entry.Call.{Call}
@@ -12,16 +11,15 @@ use Rattle.up_model.specs.declared.entry.Reply.TheVariants as replies
 use Rattle.up_script.specs.Objects.{is_evictor}
 use Rattle.up_script.specs.declared.script.Action.{Action}
 use Rattle.up_script.specs.declared.script.Action.TheVariants as actions
-use Rattle.up_worker.specs.Acting.{Acting, under_way, hears, next_wish, next_acting, has, to_leave}
-use Rattle.up_worker.specs.Calls.{calls_of, bringing, frames_before, borrows, is_access}
-use Rattle.up_worker.specs.Wishes.{attempt, settles, is_refused, ticket_after, act_on, makes, last_of, last_wish, begins_call, wants_frames, parks, unsettled, after_reply, wish_after}
-use Rattle.up_worker.specs.Laws.{Makes, MakesUnderWay, GoesOn, AsksAgain, Retries, GathersAfterNeeds, EndsRefused, LeavesOnce}
+use Rattle.up_worker.specs.Acting.{Acting, under_way, hears, next_wish, has}
+use Rattle.up_worker.specs.Calls.{bringing, frames_before, borrows, is_access}
+use Rattle.up_worker.specs.Wishes.{attempt, settles, is_refused, ticket_after, act_on, makes, last_of, last_wish, begins_call, wants_frames, parks, unsettled}
+use Rattle.up_worker.specs.Laws.{MakesUnderWay, GoesOn, AsksAgain, Retries, GathersAfterNeeds, EndsRefused, LeavesOnce}
 use Rattle.up_worker.specs.declared.course.Aim.{Aim}
 use Rattle.up_worker.specs.declared.course.Doing.{Doing}
 use Rattle.up_worker.specs.declared.course.Doing.TheVariants.{Idle, OneLine, Leaving}
 use Rattle.up_worker.specs.declared.wish.Heard.{Heard}
 use Rattle.up_worker.specs.declared.wish.Heard.TheVariants as heard
-use Rattle.up_worker.specs.declared.wish.Wish.{Wish}
 use Rattle.up_worker.specs.declared.wish.Wish.TheVariants as wishes
 
 settled_ticket : (reply : Reply) (before : Option ℕ) → settles reply ≡ true → ticket_after reply before ≡ None

@@ -1,5 +1,5 @@
 -- What contracts see of an actor, and what its lines and answers make of it.
-use Rattle.std.specs.Prelude.{◌≡◌, ℕ, ◌+◌, ◌^◌, ◌<◌, ◌≤◌, ◌==◌, ◌++◌, not, Bool, true, false, cond, is_some, Option, Some, None, List, [], ◌∷◌, length, filter, slice_get}
+use Rattle.std.specs.Prelude.{◌≡◌, ℕ, ◌+◌, ◌^◌, ◌<◌, ◌≤◌, ◌==◌, ◌++◌, not, Bool, true, false, cond, is_some, Option, None, List, [], ◌∷◌, length, filter, slice_get}
 use Rattle.std.specs.List.{list_any}
 use Rattle.up_model.specs.declared.entry.Call.TheVariants as calls
 use Rattle.up_script.specs.Objects.{is_evictor}
@@ -10,7 +10,7 @@ use Rattle.up_worker.specs.Calls.{calls_of, fits_limits}
 use Rattle.up_worker.specs.Wishes.{wants_after, settles, ticket_after, begins_call, wish_after}
 use Rattle.up_worker.specs.declared.course.Aim.{Aim}
 use Rattle.up_worker.specs.declared.course.Doing.{Doing}
-use Rattle.up_worker.specs.declared.course.Doing.TheVariants.{Idle, OneLine, Leaving}
+use Rattle.up_worker.specs.declared.course.Doing.TheVariants.{Idle, OneLine}
 use Rattle.up_worker.specs.declared.wish.Heard.{Heard}
 use Rattle.up_worker.specs.declared.wish.Heard.TheVariants as heard
 use Rattle.up_worker.specs.declared.wish.Wanted.{Wanted}

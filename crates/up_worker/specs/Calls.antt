@@ -1,5 +1,5 @@
 -- The calls that a line of a script makes, in order, each asked for until it is settled.
-use Rattle.std.specs.Prelude.{ℕ, ◌+◌, ◌-◌, ◌/◌, ◌^◌, ◌&&◌, Bool, true, false, Option, Some, None, List, [], ◌∷◌, length, map, take, drop, nat_le, nat_lt}
+use Rattle.std.specs.Prelude.{ℕ, ◌+◌, ◌-◌, ◌/◌, ◌^◌, Bool, true, false, List, [], ◌∷◌, length, map, take, drop, nat_le, nat_lt}
 use Rattle.up_num.specs.Pages.{page_number}
 use Rattle.up_num.specs.Pieces.{pieces}
 use Rattle.up_num.specs.declared.pages.PageNo.{PageNo}

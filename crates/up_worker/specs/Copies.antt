@@ -2,8 +2,6 @@
 use Rattle.std.specs.Prelude.{Bool, true, false}
 use Rattle.up_model.specs.declared.entry.Call.{Call}
 use Rattle.up_model.specs.declared.entry.Call.TheVariants as calls
-use Rattle.up_script.specs.declared.script.Action.{Action}
-use Rattle.up_script.specs.declared.script.Action.TheVariants as actions
 
 abbrev pub has_bytes : Call → Bool
 has_bytes (calls.Write off bytes last brought) = true

@@ -17,7 +17,7 @@ use Rattle.up_worker.specs.Calls.{bare, calls_of, is_access}
 use Rattle.up_worker.specs.Wishes.{settles, is_refused}
 use Rattle.up_worker.specs.declared.course.Aim.{Aim}
 use Rattle.up_worker.specs.declared.course.Doing.{Doing}
-use Rattle.up_worker.specs.declared.course.Doing.TheVariants.{Idle, OneLine, Leaving}
+use Rattle.up_worker.specs.declared.course.Doing.TheVariants.{Idle, OneLine}
 use Rattle.up_worker.specs.declared.wish.Heard.{Heard}
 use Rattle.up_worker.specs.declared.wish.Heard.TheVariants as heard
 use Rattle.up_worker.specs.declared.wish.Wish.{Wish}

@@ -1,5 +1,5 @@
 -- How far an actor has come in what it does.
-use Rattle.std.specs.Prelude.{ℕ, ◌+◌, cond, None}
+use Rattle.std.specs.Prelude.{◌+◌, cond, None}
 use Rattle.up_worker.specs.Wishes.{settles, ticket_after}
 use Rattle.up_worker.specs.declared.wish.Heard.{Heard}
 use Rattle.up_worker.specs.declared.wish.Heard.TheVariants as heard
