@@ -8,7 +8,7 @@ use Rattle.up_asks.specs.declared.ticket.Waiter.{Waiter}
 use Rattle.up_model.specs.Attempts.{Access, page_of, parked, attempt, is_bytes}
 use Rattle.up_model.specs.Value.{bytes_from}
 use Rattle.up_model.specs.Deeds.{reads}
-use Rattle.up_model.specs.Tickets.{owner, spent, outcome, keeps_ticket}
+use Rattle.up_model.specs.Tickets.{owner, outcome, keeps_ticket}
 use Rattle.up_model.specs.Looks.{look_of, lacks_own_frame}
 use Rattle.up_model.specs.Reply.{proper, reply, access_reply, retry_reply, within_page, is_piece, is_by, frames_in, counts_frames}
 use Rattle.up_model.specs.Changes.{Spends}
@@ -19,13 +19,13 @@ use Rattle.up_model.specs.declared.entry.Call.TheVariants.{Retry, Write}
 use Rattle.up_model.specs.declared.entry.Entry.{Entry}
 use Rattle.up_model.specs.declared.entry.Reply.{Reply}
 use Rattle.up_model.specs.declared.entry.Reply.TheVariants as answer
-use Rattle.up_model.proofs.Bools.{and_left, and_right, not_true, nat_eq_true}
+use Rattle.up_model.proofs.Bools.{and_left, and_right, nat_eq_true}
 use Rattle.up_model.proofs.Holding.{owner_below}
 use Rattle.up_model.proofs.Resolved.{retry_spends}
 use Rattle.up_object.specs.Asks.{access_of}
 use Rattle.up_fault.specs.declared.access.Attempt.{Attempt}
 use Rattle.up_fault.specs.Accesses.{access_in, done_reply, Doing, Wants}
-use Rattle.up_fault.specs.Calls.{bytes_of, counts_bytes, IsAttempt, IsHeld, OfParked}
+use Rattle.up_fault.specs.Calls.{bytes_of, counts_bytes, IsAttempt, OfParked}
 use Rattle.up_fault.specs.declared.wanting.Wanted.{Wanted}
 use Rattle.up_fault.proofs.Endings.{reads_own, parts_of}
 
@@ -35,15 +35,8 @@ by_some : (o : Option ℕ) (who : ℕ) → is_by o who ≡ true → o ≡ Some w
 by_some None who is = absurd cc
 by_some (Some holder) who is = ap (λ (n : ℕ). Some n) (nat_eq_true holder who is)
 
-some_is : (o : Option ℕ) (who : ℕ) → o ≡ Some who → is_some o ≡ true
-some_is o who is = ap is_some is
-
 pub held_owner : (h : List Entry) (who ticket : ℕ) (brought : Brought) → proper h who (Retry ticket brought) ≡ true → owner h ticket ≡ Some who
 held_owner h who ticket brought is = by_some (owner h ticket) who (and_left (is_by (owner h ticket) who) _ is)
-
-pub held_is : (h : List Entry) (who ticket : ℕ) (brought : Brought) → proper h who (Retry ticket brought) ≡ true → IsHeld h ticket
-held_is h who ticket brought is =
-    (ap is_some (held_owner h who ticket brought is), not_true (spent h ticket) (and_left _ _ (and_right (is_by (owner h ticket) who) _ is)))
 
 pub held_spends : (birth : Birth) (e : Entry) (h : List Entry) (who ticket : ℕ) (brought : Brought) → Legal birth h → proper h who (Retry ticket brought) ≡ true → e.call ≡ Retry ticket brought → keeps_ticket e.reply ≡ false → Spends e h ticket
 held_spends birth e h who ticket brought legal is c r = retry_spends e h ticket brought c r (owner_below birth h legal ticket who (held_owner h who ticket brought is))
@@ -146,9 +139,6 @@ brings_within attempt w b = subst (λ (x : ℕ). x % 4096 + length w.bytes ≤ 4
 
 pub brings_place : (attempt : Attempt) (w : Waiter) → Brings attempt w → (access_of w).off ≡ 4096 * page_of attempt.off + attempt.off % 4096
 brings_place attempt w b = sym b.at ∙ parts_of attempt.off
-
-pub len_some : (off len : ℕ) → within_page off len ≡ true → 0 < len
-len_some off len within = let some : nat_lt 0 len ≡ true = and_left (nat_lt 0 len) _ within in grind (arith, nat_tests)
 
 pub order_so : (m n : ℕ) → nat_le m n ≡ true → m ≤ n
 order_so m n is = grind (arith, nat_tests)

@@ -12,16 +12,16 @@ use up_pages::Look;
 
 /// A read or a write of bytes in one page: where they start, how many they are, and the page in which the whole access ends.
 #[derive(Clone, Copy, Debug)]
-pub struct Attempt {
-    pub off: u64,
-    pub len: u32,
-    pub last: PageNo,
-    pub write: bool,
+pub(crate) struct Attempt {
+    pub(crate) off: u64,
+    pub(crate) len: u32,
+    pub(crate) last: PageNo,
+    pub(crate) write: bool,
 }
 
 /// What an access comes to.
 #[derive(Clone, Copy)]
-pub enum Verdict {
+pub(crate) enum Verdict {
     /// It is refused, or needs a frame.
     Decline(Declined),
     /// It waits, and asks with this kind.

@@ -9,9 +9,4 @@ mod touching;
 mod wanting;
 mod writing;
 
-pub use access::{Attempt, Verdict};
-pub use reading::Reading;
-pub use retrying::Retrying;
 pub use touching::{retry, touch};
-pub use wanting::Wanted;
-pub use writing::Writing;

@@ -22,12 +22,12 @@ use up_pages::Frames;
 
 /// A read, as it was called.
 #[derive(Clone, Copy)]
-pub struct Reading {
-    pub alloc: Global,
-    pub by: By,
-    pub piece: Piece,
-    pub last: PageNo,
-    pub brought: Brought,
+pub(crate) struct Reading {
+    pub(crate) alloc: Global,
+    pub(crate) by: By,
+    pub(crate) piece: Piece,
+    pub(crate) last: PageNo,
+    pub(crate) brought: Brought,
 }
 
 impl Reading {

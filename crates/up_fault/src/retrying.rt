@@ -26,11 +26,11 @@ use up_pages::Frames;
 
 /// A retry, as it was called.
 #[derive(Clone, Copy)]
-pub struct Retrying {
-    pub alloc: Global,
-    pub by: By,
-    pub ticket: u64,
-    pub brought: Brought,
+pub(crate) struct Retrying {
+    pub(crate) alloc: Global,
+    pub(crate) by: By,
+    pub(crate) ticket: u64,
+    pub(crate) brought: Brought,
 }
 
 impl Retrying {

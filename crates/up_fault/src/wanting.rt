@@ -27,10 +27,10 @@ use up_span::Runs;
 
 /// Pages that an access asks for, with the runs of them that nobody asked for yet.
 #[derive(Drop)]
-pub struct Wanted {
-    pub kind: AskKind,
-    pub range: PageRange,
-    pub parts: Runs,
+pub(crate) struct Wanted {
+    pub(crate) kind: AskKind,
+    pub(crate) range: PageRange,
+    pub(crate) parts: Runs,
 }
 
 impl Wanted {

@@ -22,12 +22,12 @@ use up_pages::Frames;
 
 /// A write, as it was called, without its bytes.
 #[derive(Clone, Copy)]
-pub struct Writing {
-    pub alloc: Global,
-    pub by: By,
-    pub off: u64,
-    pub last: PageNo,
-    pub brought: Brought,
+pub(crate) struct Writing {
+    pub(crate) alloc: Global,
+    pub(crate) by: By,
+    pub(crate) off: u64,
+    pub(crate) last: PageNo,
+    pub(crate) brought: Brought,
 }
 
 impl Writing {

@@ -18,7 +18,7 @@ use Rattle.up_model.specs.declared.entry.Call.TheVariants.{Leave}
 use Rattle.up_model.specs.declared.entry.Entry.{Entry}
 use Rattle.up_model.specs.declared.entry.Role.{Role}
 use Rattle.up_model.specs.declared.entry.Role.TheVariants.{User, Pager}
-use Rattle.up_model.specs.declared.entry.Reply.TheVariants.{Refused, Left}
+use Rattle.up_model.specs.declared.entry.Reply.TheVariants.{Left}
 use Rattle.up_model.proofs.Bools.{and_false}
 use Rattle.up_model.proofs.Fates.{detached_stays}
 use Rattle.up_model.proofs.Resolved.{user_departs, pager_departs}
@@ -52,12 +52,6 @@ pub others_left : (birth : Birth) (h : List Entry) (who epoch : ℕ) (role : Rol
     reply birth h who epoch (Leave role) ≡ Left 0
 others_left birth h who epoch role some stays = left_step (in_role birth h role == 0) (length (woken birth h (Leave role))) some
     (ap length (none_woken birth h (Leave role) (λ k p. unleft_resolves birth h role k p stays) 0 (next_ticket h)))
-
-pub none_left : (birth : Birth) (h : List Entry) (who epoch : ℕ) (role : Role) → in_role birth h role ≡ 0 → reply birth h who epoch (Leave role) ≡ Refused refusal.Detached
-none_left birth h who epoch role none = rw none refl
-
-pub last_left : (birth : Birth) (h : List Entry) (who epoch : ℕ) (role : Role) → in_role birth h role ≡ 1 → reply birth h who epoch (Leave role) ≡ Left (length (woken birth h (Leave role)))
-last_left birth h who epoch role last = rw last refl
 
 -- who is left of a role of which one leaves
 still_some : (n : ℕ) → (n == 0) ≡ false → (n == 1) ≡ false → (n - 1 == 0) ≡ (n == 0)

@@ -1,9 +1,8 @@
 -- Why a supply or a fail is refused, and what follows where it isn't.
-use Rattle.std.proofs.Common.{◌≡◌, ℕ, ◌+◌, ◌≤◌, ◌==◌, not, Bool, true, false, cond, Some, None, List, refl, ap, ◌∙◌, arith, length, ◌*◌}
+use Rattle.std.proofs.Common.{◌≡◌, ℕ, ◌+◌, ◌≤◌, ◌==◌, not, Bool, true, false, cond, Some, None, List, refl, ◌∙◌, arith, length, ◌*◌}
 use Rattle.std.proofs.lemmas.Bool.Decides.{nat_tests}
 use Rattle.up_num.specs.Span.{Span}
 use Rattle.up_num.specs.declared.answers.Code.{Code}
-use Rattle.up_num.specs.declared.answers.Refusal.{Refusal}
 use Rattle.up_num.specs.declared.answers.Refusal.TheVariants as refusal
 use Rattle.up_model.specs.Size.{size, range_fits}
 use Rattle.up_model.specs.Roles.{detached}
@@ -15,33 +14,11 @@ use Rattle.up_model.specs.declared.entry.Brought.TheVariants.{Nothing, Frames, S
 use Rattle.up_model.specs.declared.entry.Call.TheVariants.{Fail}
 use Rattle.up_model.specs.declared.entry.Entry.{Entry}
 use Rattle.up_model.specs.declared.entry.Reply.{Reply}
-use Rattle.up_model.specs.declared.entry.Reply.TheVariants.{Refused, Took, Woke}
+use Rattle.up_model.specs.declared.entry.Reply.TheVariants.{Took, Woke}
 use Rattle.up_model.proofs.Bools.{and_left, and_right, nat_eq_true}
 use Rattle.up_bank.specs.Standing.{Held as Frame}
 use Rattle.up_supply.specs.Calls.{supply_call, refuses_supply, refuses_fail, IsFull}
 use Rattle.up_supply.specs.declared.supplying.Supplying.{Supplying}
-
-refused_of_three : (a b c : Bool) (why : Refusal) (next : Reply) → cond (not a) (Some refusal.Range) (cond b (Some refusal.Detached) (cond c (Some refusal.NoFrames) None)) ≡ Some why →
-    refuse_where (not a) refusal.Range (refuse_where b refusal.Detached (refuse_where c refusal.NoFrames next)) ≡ Refused why
-refused_of_three false b c why next is = let same : refusal.Range ≡ why = cc in ap (λ (w : Refusal). Refused w) same
-refused_of_three true true c why next is = let same : refusal.Detached ≡ why = cc in ap (λ (w : Refusal). Refused w) same
-refused_of_three true false true why next is = let same : refusal.NoFrames ≡ why = cc in ap (λ (w : Refusal). Refused w) same
-refused_of_three true false false why next is = absurd cc
-
-refused_of_two : (a b : Bool) (why : Refusal) (next : Reply) → cond (not a) (Some refusal.Range) (cond b (Some refusal.Detached) None) ≡ Some why →
-    refuse_where (not a) refusal.Range (refuse_where b refusal.Detached next) ≡ Refused why
-refused_of_two false b why next is = let same : refusal.Range ≡ why = cc in ap (λ (w : Refusal). Refused w) same
-refused_of_two true true why next is = let same : refusal.Detached ≡ why = cc in ap (λ (w : Refusal). Refused w) same
-refused_of_two true false why next is = absurd cc
-
--- a supply is answered with its refusal
-pub supply_refused : (birth : Birth) (h : List Entry) (who epoch : ℕ) (supplying : Supplying) (bytes : List ℕ) (why : Refusal) → refuses_supply birth h supplying ≡ Some why →
-    reply birth h who epoch (supply_call supplying bytes) ≡ Refused why
-supply_refused birth h who epoch supplying bytes why is = refused_of_three (range_fits birth h supplying.range) (detached birth h) (is_scan supplying.brought) why _ is
-
-pub fail_refused : (birth : Birth) (h : List Entry) (who epoch : ℕ) (range : Span) (code : Code) (why : Refusal) → refuses_fail birth h range ≡ Some why →
-    reply birth h who epoch (Fail range code) ≡ Refused why
-fail_refused birth h who epoch range code why is = refused_of_two (range_fits birth h range) (detached birth h) why _ is
 
 -- no refusal applies
 pub record Passes (birth : Birth) (h : List Entry) (range : Span) : Type 0 where

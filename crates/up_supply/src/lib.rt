@@ -11,6 +11,6 @@ mod telling;
 pub use cutting::detach;
 pub use failing::fail;
 pub use leaving::leave;
-pub use supplying::{Supplying, Taken, supply};
+pub use supplying::supply;
 pub use taking::packet;
 pub use telling::tell;

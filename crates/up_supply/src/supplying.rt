@@ -1,12 +1,11 @@
 //! Supplies of pages.
-ghost use Rattle.std.specs.Prelude.{◌≡◌, ℕ, ◌+◌, ◌<◌, ◌≤◌, false, List, length, IsTrue, IfOk, IfErr, OnOk, OnErr, Some, None};
+ghost use Rattle.std.specs.Prelude.{◌≡◌, ℕ, ◌+◌, ◌<◌, ◌≤◌, List, length, IsTrue, IfOk, IfErr, OnOk, OnErr, Some, None};
 ghost use Rattle.up_bank.specs.declared.kind.FrameKind.{FrameKind as FrameKindValue};
 ghost use Rattle.up_bank.specs.declared.kind.FrameKind.TheVariants.{Ordinary as OrdinaryKind};
 ghost use Rattle.up_pages.specs.Frames.{count_kind};
 ghost use Rattle.up_model.specs.declared.entry.Call.TheVariants.{Supply as SupplyCall};
 ghost use Rattle.up_model.specs.declared.entry.Reply.TheVariants.{Took as TookReply};
 ghost use Rattle.up_model.specs.Reply as replies;
-ghost use Rattle.up_model.specs.Roles as roles;
 ghost use Rattle.up_model.specs.Size.{size};
 ghost use Rattle.up_model.specs.Tickets.{woken};
 ghost use Rattle.up_object.specs.Parts.{bank_of};
@@ -62,11 +61,11 @@ pub fn supply(
 
 /// A supply, as it was called, without its bytes.
 #[derive(Drop)]
-pub struct Supplying {
-    pub alloc: Global,
-    pub by: By,
-    pub range: PageRange,
-    pub brought: Brought,
+pub(crate) struct Supplying {
+    pub(crate) alloc: Global,
+    pub(crate) by: By,
+    pub(crate) range: PageRange,
+    pub(crate) brought: Brought,
 }
 
 impl Supplying {
@@ -188,10 +187,10 @@ fn fill_range(object: Object, supplying: Supplying, bytes: Bytes, frames: Frames
 
 /// What a supply answers: once for its caller, and once for the journal.
 #[derive(Drop)]
-pub struct Taken {
-    pub pages: u32,
-    pub answer: Woken,
-    pub noted: Woken,
+struct Taken {
+    pages: u32,
+    answer: Woken,
+    noted: Woken,
 }
 
 fn fill_and_wake(
@@ -205,7 +204,6 @@ fn fill_and_wake(
     requires own { AllAre (bank_of object.banks OrdinaryKind) frames.items }
     requires full { IsFull supplying bytes frames.items }
     requires fits { supplying.range.first + supplying.range.count ≤ size object.birth object.journal }
-    requires attached { roles.detached object.birth object.journal ≡ false }
     requires due { replies.reply object.birth object.journal supplying.by.who supplying.by.epoch (supply_call supplying bytes) ≡ TookReply taken.pages taken.answer }
     requires noted { taken.noted ≡ taken.answer }
     ensures { Steps object result.0 result.1 supplying.by.who supplying.by.epoch (supply_call supplying bytes) frames.items }

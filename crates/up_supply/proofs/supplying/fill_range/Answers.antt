@@ -10,9 +10,6 @@ fill_and_wake-requires-clause-full c =
 pub fill_and_wake-requires-clause-fits : goal.fill_and_wake-requires-clause-fits
 fill_and_wake-requires-clause-fits c = (supply_passes c.args.object.birth c.args.object.journal c.args.supplying c.requires.accepted).ends
 
-pub fill_and_wake-requires-clause-attached : goal.fill_and_wake-requires-clause-attached
-fill_and_wake-requires-clause-attached c = (supply_passes c.args.object.birth c.args.object.journal c.args.supplying c.requires.accepted).attached
-
 pub fill_and_wake-requires-clause-due : goal.fill_and_wake-requires-clause-due
 fill_and_wake-requires-clause-due c =
     supply_taken c.args.object.birth c.args.object.journal c.args.supplying.by.who c.args.supplying.by.epoch c.args.supplying c.args.bytes c.requires.accepted
