@@ -1,10 +1,9 @@
 -- How a pass goes on, object by object, and how the passes of a level join.
-use Rattle.std.proofs.Common.{Result, Ok, Err, OnErr, IfOk, ◌≡◌, ℕ, zero, suc, ◌+◌, ◌-◌, ◌<◌, ◌≤◌, ◌==◌, ◌⊎◌, Bool, true, false, cond, Option, Some, None, List, [], ◌∷◌, ◌++◌, refl, ap, sym, ◌∙◌, subst, arith, nat_lt, inl, inr, append_assoc}
-use Rattle.std.specs.List.{sum_by}
+use Rattle.std.proofs.Common.{Result, Ok, Err, OnErr, IfOk, ◌≡◌, ℕ, zero, suc, ◌+◌, ◌-◌, ◌<◌, ◌≤◌, ◌==◌, ◌⊎◌, Bool, true, false, cond, Option, Some, List, [], ◌∷◌, ◌++◌, refl, ap, sym, ◌∙◌, subst, arith, inl, inr, append_assoc}
 use Rattle.std.proofs.lemmas.Bool.Decides.{nat_tests}
 use Rattle.std.proofs.lemmas.List.Sums.{sum_by-append, sum_by-cons}
 use Rattle.up_evictor.specs.Levels.{age_limits}
-use Rattle.up_evictor.specs.Relief.{Ask, cull_of, one_pass, turns, Relieves, given_by, last_cull, gave_less, EachGaveLess, RelievedInPart}
+use Rattle.up_evictor.specs.Relief.{Ask, cull_of, one_pass, turns, Relieves, given_by, last_cull, gave_less, RelievedInPart}
 use Rattle.up_evictor.specs.Passes.{Passed, PassedInPart, Turned}
 use Rattle.up_evictor.specs.declared.herd.Cull.{Cull}
 use Rattle.up_evictor.specs.declared.levels.Level.{Level}

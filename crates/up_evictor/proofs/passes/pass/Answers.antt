@@ -1,7 +1,7 @@
-use Rattle.std.proofs.Common.{refl, subst, sym, ap, ◌∷◌, arith, ◌∙◌}
+use Rattle.std.proofs.Common.{subst, sym, ap, ◌∷◌, arith, ◌∙◌}
 use Rattle.up_evictor.specs.Relief.{cull_of}
 use Rattle.up_evictor.specs.Passes.{PassedInPart}
-use Rattle.up_evictor.proofs.Asking.{asked_one, stops, ends, breaks, at_error, Asked}
+use Rattle.up_evictor.proofs.Asking.{asked_one, stops, breaks, at_error, Asked}
 use Rattle.up_evictor.proofs.passes.pass.Goals as goal
 
 pub returns-then-left-eq0-clause-ok : goal.returns-then-left-eq0-clause-ok

@@ -1,9 +1,7 @@
-use Rattle.std.proofs.Common.{refl, ap, [], subst, sym, arith, ◌∙◌}
-use Rattle.up_evictor.proofs.Asking.{no_pass, one_turn, two_turns, first_breaks, second_breaks, at_error, then_ok, then_err, both_classes}
-use Rattle.up_evictor.specs.declared.levels.Level.TheVariants.{Warning, Critical, Empty}
+use Rattle.std.proofs.Common.{ap, [], subst}
+use Rattle.up_evictor.proofs.Asking.{two_turns, first_breaks, second_breaks, at_error, then_ok, then_err, both_classes}
 use Rattle.up_evictor.specs.Levels.{age_limits}
-use Rattle.up_evictor.specs.Relief.{RelievedInPart}
-use Rattle.up_evictor.specs.Passes.{Passed, PassedInPart, Turned}
+use Rattle.up_evictor.specs.Passes.{Passed, PassedInPart}
 use Rattle.up_evictor.proofs.passes.turn.Goals as goal
 
 pub returns-in_err-left-in-Critical-clause-err : goal.returns-in_err-left-in-Critical-clause-err
