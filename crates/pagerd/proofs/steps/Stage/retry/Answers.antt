@@ -41,7 +41,7 @@ invariant_of-self-2 c =
     let same : held.life ≡ life = some_same held.life life (sym held.is ∙ is) in
     let may = waits_may_retry life.birth life.journal (c.self.invariant.legal place.object life is) c.args.who place.ticket
     (subst (λ (l : Life). waits_under l.journal c.args.who ≡ Some place.ticket) same held.under) in
-    keeps_by objects c.self.inside.waits.items c.self.inside.done.items c.args.who (retry_of place) life c.retry.new.object c.place_on.result c.self.invariant
+    keeps_by objects c.self.inside.waits.items c.self.inside.done.items c.args.who (retry_of place) life c.retry.new.self c.place_on.result c.self.invariant
     (subst (λ (v : Staged). c.args.who < length v.done) (sym c.self.view_is) c.requires.known) is may c.in_ok-reply.ensures.ok
     (c.place_on.ensures ∙ ap (place_at place.object) (c.ticket_after.ensures call refl ∙ ap (λ (r : Reply). waits_after r call) c.in_ok-reply.ensures.reply))
 
@@ -53,7 +53,7 @@ returns c =
     let life = c.index_mut.result.now in
     let held = c.self.invariant.held c.args.who place (ap (λ (v : Staged). slice_get v.waits c.args.who) c.self.view_is ∙ c.requires.waits) in
     let is = get_is objects place.object life (get_within objects place.object held.life held.is) c.index_mut.ensures.value in
-    let now : Staged = record { lives = slice_set objects place.object c.retry.new.object; waits = slice_set c.self.inside.waits.items c.args.who c.place_on.result; done = c.self.inside.done.items } in
+    let now : Staged = record { lives = slice_set objects place.object c.retry.new.self; waits = slice_set c.self.inside.waits.items c.args.who c.place_on.result; done = c.self.inside.done.items } in
     subst (λ (v : Staged). Acted v now c.args.who (retry_of place)) c.self.view_is
-    (acted_by objects c.self.inside.waits.items c.self.inside.done.items c.args.who (retry_of place) life c.retry.new.object c.place_on.result is c.in_ok-reply.ensures.ok
+    (acted_by objects c.self.inside.waits.items c.self.inside.done.items c.args.who (retry_of place) life c.retry.new.self c.place_on.result is c.in_ok-reply.ensures.ok
     (c.place_on.ensures ∙ ap (place_at place.object) (c.ticket_after.ensures call refl ∙ ap (λ (r : Reply). waits_after r call) c.in_ok-reply.ensures.reply)))
