@@ -1,0 +1,17 @@
+//! Accesses to an object: reads and writes of bytes in one page, and retries of those that waited.
+#![tactic(auto)]
+
+mod access;
+mod deciding;
+mod reading;
+mod retrying;
+mod touching;
+mod wanting;
+mod writing;
+
+pub use access::{Attempt, Verdict};
+pub use reading::Reading;
+pub use retrying::Retrying;
+pub use touching::{retry, touch};
+pub use wanting::Wanted;
+pub use writing::Writing;
