@@ -1,0 +1,6 @@
+use Rattle.std.proofs.Common.{◌≡◌}
+use Rattle.up_object.specs.Steps.{further}
+use Rattle.up_clean.proofs.beginning.begin_pages.Given as goal
+
+abbrev pub invariant-loop-place : goal.invariant-loop-place
+invariant-loop-place l = l.changing ≡ further l._place l.fn.changing
