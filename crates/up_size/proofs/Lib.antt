@@ -1,0 +1,4 @@
+pub mod Blanked
+pub mod Events
+pub mod Zeroes
+pub mod Resizes

@@ -1,0 +1,13 @@
+//! The calls on an object that make pages zeros, and that set how many pages it has. Each appends its one entry, with the reply
+//! that is due.
+#![tactic(auto)]
+
+mod blanking;
+mod cutting;
+mod growing;
+mod resizing;
+mod waking;
+mod zeroing;
+
+pub use resizing::resize;
+pub use zeroing::zero;
