@@ -1,6 +1,5 @@
 -- How many frames requests hand in, an object holds, and come back.
-use Rattle.std.proofs.Common.{◌≡◌, ℕ, zero, suc, ◌+◌, ◌-◌, ◌<◌, ◌≤◌, Bool, true, false, cond, Some, List, [], ◌∷◌, ◌++◌, length, take, reverse, sum_by, slice_get, refl, sym, ◌∙◌, ap, subst, arith}
-use Rattle.std.proofs.lemmas.List.{length-append, append_assoc, take_at}
+use Rattle.std.proofs.Common.{◌≡◌, ℕ, zero, suc, ◌+◌, ◌≤◌, Bool, true, false, cond, Some, List, [], ◌∷◌, ◌++◌, length, take, slice_get, refl, sym, ◌∙◌, ap, subst, arith}
 use Rattle.std.proofs.lemmas.List.Sums.{sum_by-cons, sum_by-append, sum_by_more}
 use Rattle.std.proofs.lemmas.Option.{slice_get_within, get_or_from_slice_get}
 use Rattle.up_bank.specs.Standing.{Held as Frame}
@@ -17,7 +16,7 @@ use Rattle.up_object.specs.Whole.{Whole, held, is_framed_by}
 use Rattle.up_object.specs.Steps.{frames_of}
 use Rattle.up_core.specs.declared.requests.Request.{Request}
 use Rattle.up_core.specs.Requests.{handed, given_back}
-use Rattle.up_core.specs.Running.{Ran, Stopped, all_handed, all_back}
+use Rattle.up_core.specs.Running.{Stopped, all_handed, all_back}
 
 abbrev one_where : Bool → ℕ
 one_where test = cond test 1 0

@@ -1,6 +1,6 @@
 -- Requests that were done, and one more of them.
-use Rattle.std.proofs.Common.{◌≡◌, ℕ, ◌+◌, ◌-◌, ◌<◌, ◌≤◌, List, [], ◌∷◌, ◌++◌, length, map, take, reverse, sum_by, refl, sym, ◌∙◌, ap, subst, arith}
-use Rattle.std.proofs.lemmas.List.{append-nil, append_assoc, map-append, length-append, take_at}
+use Rattle.std.proofs.Common.{◌≡◌, ℕ, ◌+◌, List, [], ◌∷◌, ◌++◌, refl, sym, ◌∙◌, ap, subst, arith}
+use Rattle.std.proofs.lemmas.List.{append-nil, append_assoc, map-append}
 use Rattle.std.proofs.lemmas.List.Sums.{sum_by_push}
 use Rattle.up_bank.specs.Standing.{Held as Frame}
 use Rattle.up_bank.specs.declared.kind.FrameKind.{FrameKind}
@@ -13,7 +13,7 @@ use Rattle.up_object.specs.Change.{AllAre, AllOwn}
 use Rattle.up_object.specs.Whole.{Whole, held}
 use Rattle.up_object.specs.Steps.{frames_of}
 use Rattle.up_core.specs.declared.requests.Request.{Request}
-use Rattle.up_core.specs.Requests.{Keeps, AllKeep, kind_taken, after_one, after_all, replies_to, replies_in, handed, given_back, AllBackOwn, tried, done}
+use Rattle.up_core.specs.Requests.{Keeps, AllKeep, kind_taken, after_one, after_all, replies_to, replies_in, handed, given_back, AllBackOwn}
 use Rattle.up_core.specs.Running.{Ran, Stopped}
 
 pub after_append : (whole : Whole) (xs ys : List Request) → after_all whole (xs ++ ys) ≡ after_all (after_all whole xs) ys

@@ -2,7 +2,7 @@
 use Rattle.std.specs.Prelude.{Bool, true, false}
 use Rattle.up_model.specs.declared.entry.Brought.{Brought}
 use Rattle.up_model.specs.declared.entry.Call.{Call}
-use Rattle.up_model.specs.declared.entry.Call.TheVariants.{Read, Write, Retry, Supply, Fail, Dirty, Begin, End, Query, Stats, Hint, Pin, Unpin, Evict, Borrow, Vacate, Resize, Zero, Detach, Packet, Leave, Tell}
+use Rattle.up_model.specs.declared.entry.Call.TheVariants.{Read, Write, Retry, Supply, Dirty, Begin, End, Query, Stats, Hint, Pin, Unpin, Evict, Borrow, Vacate, Resize, Zero}
 
 -- the call, where it takes frames with this as what it brought
 abbrev pub bringing : Brought → Call → Call
