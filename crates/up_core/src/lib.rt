@@ -1,0 +1,13 @@
+//! The core of an object: one step, which does the call that a value names, and lists of requests, done in order.
+#![tactic(auto)]
+
+mod gathering;
+mod listing;
+mod owed;
+mod requests;
+mod stepping;
+
+pub use listing::run_list;
+pub use owed::Owed;
+pub use requests::{Replies, Request, Requests};
+pub use stepping::step;
