@@ -1,0 +1,6 @@
+pub mod Seen
+pub mod Choices
+pub mod Counting
+pub mod Endings
+pub mod Lacking
+pub mod Again

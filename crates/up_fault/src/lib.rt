@@ -1,0 +1,12 @@
+//! Accesses to an object: reads and writes of bytes in one page, and retries of those that waited.
+#![tactic(auto)]
+
+mod access;
+mod deciding;
+mod reading;
+mod retrying;
+mod touching;
+mod wanting;
+mod writing;
+
+pub use touching::{retry, touch};

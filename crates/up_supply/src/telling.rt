@@ -1,0 +1,63 @@
+//! Told facts.
+ghost use Rattle.std.specs.Prelude.{◌≡◌, ℕ, ◌+◌, [], true, IfOk, IfErr, OnOk, OnErr};
+ghost use Rattle.up_bank.specs.declared.kind.FrameKind.{FrameKind as FrameKindValue};
+ghost use Rattle.up_pages.specs.Frames.{count_kind};
+ghost use Rattle.up_model.specs.declared.entry.Call.TheVariants.{Tell as TellCall};
+ghost use Rattle.up_model.specs.Reply as replies;
+ghost use Rattle.up_object.specs.Change.{AllOwn};
+ghost use Rattle.up_object.specs.Whole.{held, after};
+ghost use Rattle.up_object.specs.Steps.{Steps};
+ghost use Rattle.up_supply.specs.Calls.{is_tell};
+
+use core::mem::replace_with;
+use std::alloc::Global;
+use up_bank::FrameKind;
+use up_model::{Call, Reply, Told};
+use up_object::{By, Object, Step, note_with};
+use up_pages::Frames;
+
+/// Notes what the sample pager says that it did. It answers `Noted`.
+pub fn tell(object: &mut Object, alloc: Global, who: u32, epoch: u64, told: Told) -> Step
+    ensures reply { IfOk result (λ step. step.reply ≡ replies.reply object.old.birth object.old.journal who epoch (TellCall told)) }
+    ensures object { OnOk result (object.new ≡ after object.old who epoch (TellCall told)) }
+    ensures frames { IfOk result (λ step. (kind : FrameKindValue) → count_kind kind step.back.items + held object.new.birth object.new.journal kind ≡ held object.old.birth object.old.journal kind) }
+    ensures own { IfOk result (λ step. AllOwn object.old.banks step.back.items) }
+    ensures same { OnErr result (object.new ≡ object.old) }
+    ensures back { IfErr result (λ failed. failed.1.items ≡ []) }
+{
+    let by = By { who, epoch };
+    let call = Call::Tell(told);
+    replace_with(object, Telling { alloc, by, call }, note_told)
+}
+
+#[derive(Drop)]
+struct Telling {
+    alloc: Global,
+    by: By,
+    call: Call,
+}
+
+fn note_told(object: Object, telling: Telling) -> (Object, Step)
+    requires tells { is_tell telling.call ≡ true }
+    ensures { Steps object result.0 result.1 telling.by.who telling.by.epoch telling.call [] }
+{
+    let Telling { alloc, by, call } = telling;
+    match call {
+        Call::Tell(told) => note_fact(object, alloc, by, told),
+        _ => unreachable!(),
+    }
+}
+
+fn note_fact(object: Object, alloc: Global, by: By, told: Told) -> (Object, Step)
+    ensures { Steps object result.0 result.1 by.who by.epoch (TellCall told) [] }
+{
+    let entry = by.entry(Call::Tell(told), Reply::Noted);
+    note_with(
+        object,
+        alloc,
+        entry,
+        Reply::Noted,
+        FrameKind::Ordinary,
+        Frames::new(alloc),
+    )
+}
