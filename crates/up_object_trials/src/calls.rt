@@ -13,7 +13,7 @@ use up_object::{FramesIn, Object, Stepped};
 use up_pages::Frames;
 use up_supply::{detach, fail, leave, packet, supply, tell};
 
-const BIRTH: Birth = Birth {
+pub(crate) const BIRTH: Birth = Birth {
     pages: 1,
     limit: None,
     trap: false,
@@ -94,7 +94,7 @@ fn take(desk: &mut Desk, object: &mut Object, alloc: Global) -> Option<Reply>
     }
 }
 
-fn bring(
+pub(crate) fn bring(
     desk: &mut Desk,
     object: &mut Object,
     alloc: Global,

@@ -1,5 +1,5 @@
 ghost use Rattle.std.specs.Prelude.{◌≡◌, ◌+◌, ◌<◌, ◌≤◌, length, IfOk, IfSome};
-ghost use Rattle.up_bank.specs.declared.kind.FrameKind.TheVariants.{Ordinary as OrdinaryKind};
+ghost use Rattle.up_bank.specs.declared.kind.FrameKind.TheVariants.{Ordinary as OrdinaryKind, Loaned as LoanedKind};
 ghost use Rattle.up_object.specs.Parts.{bank_of};
 ghost use Rattle.up_object.specs.Change.{AllAre, AllOwn};
 
@@ -105,6 +105,37 @@ impl Desk {
                 Ok(()) => Some(frames),
                 Err((_, frame)) => {
                     self.ordinary.give(&mut self.first, frame);
+                    frames.end();
+                    None
+                }
+            },
+            Err(_) => {
+                frames.end();
+                None
+            }
+        }
+    }
+
+    // Gives back frames that were to be lent.
+    pub(crate) fn give_loans_back(&mut self, frames: Frames)
+        requires { AllAre (bank_of self.old LoanedKind) frames.items }
+        ensures { self.new ≡ self.old }
+    {
+        let _ = &self.ordinary;
+        self.give_all(frames);
+    }
+
+    // One loaned frame, where the bank has one.
+    pub(crate) fn one_loan(&mut self, alloc: Global) -> Option<Frames>
+        ensures same { self.new ≡ self.old }
+        ensures own { IfSome result (λ frames. AllAre (bank_of self.old LoanedKind) frames.items) }
+    {
+        let mut frames = Frames::new(alloc);
+        match self.loaned.claim(&mut self.second) {
+            Ok(frame) => match frames.push(frame) {
+                Ok(()) => Some(frames),
+                Err((_, frame)) => {
+                    self.loaned.give(&mut self.second, frame);
                     frames.end();
                     None
                 }

@@ -1,4 +1,4 @@
-//! Each call of `up_fault` and `up_supply` once on its happy path and with ample memory. They stand here, above both, since an access
+//! Each call of `up_fault`, `up_supply` and `up_reclaim` once on its happy path and with ample memory. They stand here, above all three, since an access
 //! gives bytes only after a supply.
 #![tactic(auto)]
 
@@ -6,3 +6,5 @@
 mod calls;
 #[cfg(test)]
 mod desk;
+#[cfg(test)]
+mod reclaiming;

@@ -4,7 +4,7 @@ use Rattle.std.proofs.lemmas.Bool.Decides.{nat_tests}
 use Rattle.up_num.specs.declared.pages.PageNo.{PageNo}
 use Rattle.up_num.specs.declared.answers.PageState.TheVariants.{Clean}
 use Rattle.up_model.specs.Attempts.{is_done}
-use Rattle.up_model.specs.Deeds.{says_borrowed, borrows}
+use Rattle.up_model.specs.Deeds.{says_borrowed}
 use Rattle.up_model.specs.Value.{there, marked, begun, settled}
 use Rattle.up_model.specs.States.{unclean}
 use Rattle.up_model.specs.Pins.{loaned}

@@ -7,7 +7,6 @@ use Rattle.std.proofs.lemmas.Bool.Decides.{nat_tests}
 use Rattle.up_num.specs.declared.answers.PageState.TheVariants.{Clean}
 use Rattle.up_model.specs.Size.{size}
 use Rattle.up_model.specs.Deeds.{evicts, moves}
-use Rattle.up_model.specs.States.{unclean}
 use Rattle.up_model.specs.Pins.{loaned}
 use Rattle.up_model.specs.Order.{loose}
 use Rattle.up_model.specs.Pages.{count_pages}

@@ -1,4 +1,4 @@
-use Rattle.std.proofs.Common.{◌≡◌, ℕ, ◌<◌, ◌+◌, List, [], ◌∷◌, ◌++◌, arith, rules}
+use Rattle.std.proofs.Common.{rules}
 use Rattle.up_reclaim.proofs.Vacated.{fate_put}
 use Rattle.up_reclaim.proofs.loans.fates_of.Goals as goal
 

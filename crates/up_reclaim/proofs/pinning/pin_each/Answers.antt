@@ -1,4 +1,4 @@
-use Rattle.std.proofs.Common.{◌≡◌, ℕ, ◌+◌, ◌-◌, ◌<◌, true, cond, ap, sym, ◌∙◌, subst}
+use Rattle.std.proofs.Common.{◌≡◌, ℕ, ◌+◌, ◌-◌, ◌<◌, cond, ap, sym, ◌∙◌, subst}
 use Rattle.up_model.specs.Looks.{lacks_own_frame, look_of}
 use Rattle.up_model.specs.Reply.{needs_own_frame}
 use Rattle.up_object.specs.Change.{Change}
