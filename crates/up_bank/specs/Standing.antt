@@ -4,7 +4,6 @@ use Rattle.atomic_table.specs.Seated.{TableId}
 use Rattle.up_bank.specs.Bytes.{Given}
 use Rattle.up_bank.specs.Find.{Find}
 use Rattle.up_bank.specs.declared.kind.FrameKind.{FrameKind}
-use Rattle.up_bank.specs.declared.kind.FrameKind.TheVariants.{Ordinary, Loaned}
 
 -- which bank it is, and the kind of its frames
 pub record BankId : Type 0 where
@@ -15,10 +14,9 @@ pub record BankId : Type 0 where
 abbrev pub frames_of : BankId → ℕ
 frames_of bank = bank.table.slots
 
--- how many frames a bank may have
-abbrev pub most_frames : FrameKind → ℕ
-most_frames Ordinary = 16384
-most_frames Loaned = 4096
+-- how many frames a bank may have, of either kind
+abbrev pub most_frames : ℕ
+most_frames = 131072
 
 -- a seat: its bank, whether that never had another seat, frames' own aside, for such a seat 1 for each frame at home and 0 for each other, what its looks at the bitmap found, in order, and the returns that it knows of, the newest first
 pub record Standing : Type 0 where

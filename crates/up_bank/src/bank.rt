@@ -28,7 +28,7 @@ impl Model for Bank {
     ghost view = { λ bank. record { table = bank.table.shared.table_id; kind = bank.shape.kind } };
 
     ghost invariant = { λ bank. (bank.table.shared.key ≡ bank.shape) × (bank.table.shared.table_id.slots ≡ bank.shape.frames)
-        × (bank.table.shared.table_id.words ≡ words_of bank.shape.frames * 2) × (0 < bank.shape.frames) × (bank.shape.frames ≤ most_frames bank.shape.kind) };
+        × (bank.table.shared.table_id.words ≡ words_of bank.shape.frames * 2) × (0 < bank.shape.frames) × (bank.shape.frames ≤ most_frames) };
 }
 
 /// What a thread calls a bank with. It takes no bytes.
@@ -70,10 +70,10 @@ impl Model for Scan {
 }
 
 impl Bank {
-    /// A bank of 1 to 16,384 ordinary or 1 to 4,096 loaned frames, all zeros and at home, and its first seat.
+    /// A bank of 1 to 131,072 frames of one kind, all zeros and at home, and its first seat.
     pub fn new(alloc: Global, kind: FrameKind, frames: u32) -> Result<(Bank, BankSeat), Memory>
         requires some { 0 < frames }
-        requires few { frames ≤ most_frames kind }
+        requires few { frames ≤ most_frames }
         ensures bank { IfOk result (λ made. (made.0.kind ≡ kind) × (frames_of made.0 ≡ frames)) }
         ensures seat { IfOk result (λ made. made.1 ≡ first_seat made.0) }
     {

@@ -5,7 +5,7 @@ ghost use Rattle.atomic_table.specs.declared.shared.Seat.{Seat};
 ghost use Rattle.up_bank.specs.Bytes.{zero_bytes, Extends};
 ghost use Rattle.up_bank.specs.Banked.{newcomer};
 ghost use Rattle.up_bank.specs.Find.{words_of, bits_set};
-ghost use Rattle.up_bank.specs.Standing.{frames_of};
+ghost use Rattle.up_bank.specs.Standing.{frames_of, most_frames};
 ghost use Rattle.up_bank.specs.Plays.{AsKnown, saw, fetched, merged, Put};
 ghost use Rattle.up_bank.specs.Scan.{Idle, Rests, Claimed, Got, IsIn, Missed, Counting, frames_in};
 
@@ -22,7 +22,7 @@ use std::alloc::{AllocError, Global};
 
 // The words of a bank's table when all frames are at home.
 fn opening_words(alloc: Global, frames: u32) -> Result<Vec<u64>, Memory>
-    requires { frames ≤ 16384 }
+    requires { frames ≤ most_frames }
     ensures long { IfOk result (λ words. length words.items ≡ words_of frames * 2) }
     ensures home { IfOk result (λ words. (i : ℕ) → i < words_of frames → slice_index words.items (i * 2) ≡ 2 ^ 64 - 1) }
     ensures empty { IfOk result (λ words. (i : ℕ) → i < words_of frames → slice_index words.items (i * 2 + 1) ≡ 0) }
@@ -63,7 +63,7 @@ impl Bank {
     // The table of a new bank.
     pub(crate) fn board(alloc: Global, shape: Shape) -> Result<(Board, Place), Memory>
         requires some { 0 < shape.frames }
-        requires few { shape.frames ≤ 16384 }
+        requires few { shape.frames ≤ most_frames }
         ensures key { IfOk result (λ made. made.0.shared.key ≡ shape) }
         ensures slots { IfOk result (λ made. made.0.shared.table_id.slots ≡ shape.frames) }
         ensures words { IfOk result (λ made. made.0.shared.table_id.words ≡ words_of shape.frames * 2) }

@@ -170,7 +170,7 @@ fn are_apart(
 // Whether a bank of so many frames has each of them at home, hands each out once, and then none.
 fn hands_out_each_frame_once(alloc: Global, kind: FrameKind, frames: u32) -> Result<bool, Memory>
     requires some { 0 < frames }
-    requires few { frames ≤ most_frames kind }
+    requires few { frames ≤ most_frames }
 {
     let (bank, mut seat) = Bank::new(alloc, kind, frames)?;
     let at_first = bank.free(&mut seat);

@@ -1,6 +1,5 @@
 ghost use Rattle.std.specs.Prelude.{◌≡◌, ◌+◌, ◌<◌, ◌≤◌, ◌++◌, [], length, reverse, vec_capacity, IfSome, IfOk, IfErr, OnOk};
 ghost use Rattle.up_bank.specs.declared.kind.FrameKind.{FrameKind as FrameKindValue};
-ghost use Rattle.up_bank.specs.declared.kind.FrameKind.TheVariants.{Ordinary as OrdinaryKind, Loaned as LoanedKind};
 ghost use Rattle.up_pages.specs.Frames.{count_kind};
 ghost use Rattle.up_model.specs.Size.{size};
 ghost use Rattle.up_object.specs.Change.{AllOwn};
@@ -36,7 +35,7 @@ pub fn run_list(
     ensures left { IfErr result (λ failed. tried list failed.1 ++ failed.1 ≡ list) }
     ensures stands { IfErr result (λ failed. object.new ≡ after_all object.old (done list failed.1)) }
     ensures back { IfErr result (λ failed. (kind : FrameKindValue) → count_kind kind failed.2.items + held object.new.birth object.new.journal kind ≡ handed kind (tried list failed.1) + held object.old.birth object.old.journal kind) }
-    ensures back_own { IfErr result (λ failed. (object.old.banks.ordinary.kind ≡ OrdinaryKind) × (object.old.banks.loaned.kind ≡ LoanedKind) → AllOwn object.old.banks failed.2.items) }
+    ensures back_own { IfErr result (λ failed. AllOwn object.old.banks failed.2.items) }
 {
     if list.is_empty() {
         list.end();

@@ -129,6 +129,7 @@ impl Object {
     pub fn size(&self) -> u32
         ensures value { result ≡ sizes.size self.now.birth self.now.journal }
         ensures legal { Legal self.now.birth self.now.journal }
+        ensures kinds { (self.now.banks.ordinary.kind ≡ OrdinaryKind) × (self.now.banks.loaned.kind ≡ LoanedKind) }
     {
         self.pages.size()
     }

@@ -1,14 +1,17 @@
-ghost use Rattle.std.specs.Prelude.{◌≡◌, ◌+◌, ◌<◌, ◌≤◌, length, IfOk, IfSome};
-ghost use Rattle.up_bank.specs.declared.kind.FrameKind.TheVariants.{Ordinary as OrdinaryKind, Loaned as LoanedKind};
+ghost use Rattle.std.specs.Prelude.{◌≡◌, ◌+◌, ◌<◌, ◌≤◌, length, true, IfOk};
+ghost use Rattle.up_bank.specs.Standing.{most_frames};
 ghost use Rattle.up_object.specs.Parts.{bank_of};
 ghost use Rattle.up_object.specs.Change.{AllAre, AllOwn};
+ghost use Rattle.up_object.specs.Steps.{brought_of, frames_of};
+ghost use Rattle.up_core.specs.Requests.{kind_taken, Agrees};
 
 use std::alloc::Global;
 use std::marker::Model;
-use std::test::Fail;
-use up_bank::{Bank, BankSeat, Frame, FrameKind};
-use up_model::Birth;
-use up_object::Object;
+use std::process::Abort;
+use up_bank::{Bank, BankSeat, Frame, FrameKind, Scan};
+use up_model::{Birth, Brought, Call};
+use up_num::Memory;
+use up_object::{FramesIn, Object};
 use up_pages::Frames;
 
 // The two banks of an object, and a seat of each.
@@ -33,9 +36,13 @@ impl Model for Desk {
 }
 
 impl Desk {
-    pub(crate) fn new(alloc: Global) -> Result<Desk, Fail> {
-        let (ordinary, first) = Bank::new(alloc, FrameKind::Ordinary, 1)?;
-        let (loaned, second) = Bank::new(alloc, FrameKind::Loaned, 1)?;
+    // Banks of so many frames of each kind.
+    pub(crate) fn new(alloc: Global, ordinary: u32, loaned: u32) -> Result<Desk, Memory>
+        requires ordinary { (0 < ordinary) × (ordinary ≤ most_frames) }
+        requires loaned { (0 < loaned) × (loaned ≤ most_frames) }
+    {
+        let (ordinary, first) = Bank::new(alloc, FrameKind::Ordinary, ordinary)?;
+        let (loaned, second) = Bank::new(alloc, FrameKind::Loaned, loaned)?;
         Ok(Desk {
             ordinary,
             loaned,
@@ -44,12 +51,12 @@ impl Desk {
         })
     }
 
-    pub(crate) fn birth(&self, alloc: Global, birth: Birth) -> Result<Object, Fail>
+    pub(crate) fn birth(&self, alloc: Global, birth: Birth) -> Result<Object, Memory>
         requires users { (0 < birth.users) × (birth.users ≤ 64) }
         requires pagers { (0 < birth.pagers) × (birth.pagers ≤ 64) }
         ensures { IfOk result (λ object. object.banks ≡ self.now) }
     {
-        Ok(Object::birth(alloc, birth, &self.ordinary, &self.loaned)?)
+        Object::birth(alloc, birth, &self.ordinary, &self.loaned)
     }
 
     fn give(&mut self, frame: Frame)
@@ -84,66 +91,85 @@ impl Desk {
         frames.end();
     }
 
-    // Gives back frames that a pager had in hand.
-    pub(crate) fn give_back(&mut self, frames: Frames)
-        requires { AllAre (bank_of self.old OrdinaryKind) frames.items }
-        ensures { self.new ≡ self.old }
+    // A frame that is at home.
+    fn claim(&mut self, rt: &impl Abort, kind: FrameKind) -> Frame
+        ensures same { self.new ≡ self.old }
+        ensures bank { result.bank ≡ bank_of self.old kind }
     {
-        let _ = &self.ordinary;
-        self.give_all(frames);
+        let claimed = match kind {
+            FrameKind::Ordinary => self.ordinary.claim(&mut self.first),
+            FrameKind::Loaned => self.loaned.claim(&mut self.second),
+        };
+        claimed.ok().expect(rt, "a frame at home")
     }
 
-    // One frame that a pager may hand in, where the bank has one.
-    pub(crate) fn one_frame(&mut self, alloc: Global) -> Option<Frames>
+    // Frames that are handed to a call.
+    fn some_frames(&mut self, rt: &impl Abort, alloc: Global, kind: FrameKind, count: u32) -> Frames
         ensures same { self.new ≡ self.old }
-        ensures one { IfSome result (λ frames. length frames.items ≡ 1) }
-        ensures own { IfSome result (λ frames. AllAre (bank_of self.old OrdinaryKind) frames.items) }
+        ensures own { AllAre (bank_of self.old kind) result.items }
     {
         let mut frames = Frames::new(alloc);
-        match self.ordinary.claim(&mut self.first) {
-            Ok(frame) => match frames.push(frame) {
-                Ok(()) => Some(frames),
-                Err((_, frame)) => {
-                    self.ordinary.give(&mut self.first, frame);
-                    frames.end();
-                    None
-                }
-            },
-            Err(_) => {
-                frames.end();
-                None
+        for _place in 0..count {
+            let frame = self.claim(rt, kind);
+            if let Err((_, _frame)) = frames.push(frame) {
+                panic!(rt; "room for a frame");
             }
         }
+        frames
     }
 
-    // Gives back frames that were to be lent.
-    pub(crate) fn give_loans_back(&mut self, frames: Frames)
-        requires { AllAre (bank_of self.old LoanedKind) frames.items }
-        ensures { self.new ≡ self.old }
-    {
-        let _ = &self.ordinary;
-        self.give_all(frames);
-    }
-
-    // One loaned frame, where the bank has one.
-    pub(crate) fn one_loan(&mut self, alloc: Global) -> Option<Frames>
+    // What a call says that it brought.
+    fn bring(
+        &mut self,
+        rt: &impl Abort,
+        alloc: Global,
+        kind: FrameKind,
+        brought: Brought,
+    ) -> FramesIn
         ensures same { self.new ≡ self.old }
-        ensures own { IfSome result (λ frames. AllAre (bank_of self.old LoanedKind) frames.items) }
+        ensures own { AllAre (bank_of self.old kind) (frames_of result) }
+        ensures brought { brought ≡ brought_of result }
     {
-        let mut frames = Frames::new(alloc);
-        match self.loaned.claim(&mut self.second) {
-            Ok(frame) => match frames.push(frame) {
-                Ok(()) => Some(frames),
-                Err((_, frame)) => {
-                    self.loaned.give(&mut self.second, frame);
-                    frames.end();
-                    None
-                }
-            },
-            Err(_) => {
-                frames.end();
-                None
-            }
+        let made = match brought {
+            Brought::Nothing => FramesIn::NoneYet,
+            Brought::Frames(count) => FramesIn::Given(self.some_frames(rt, alloc, kind, count)),
+            Brought::Scanned => FramesIn::Scanned(a_scan(rt, alloc)),
+        };
+        assert!(rt; made.brought() == brought);
+        made
+    }
+
+    // What a call is handed.
+    pub(crate) fn frames_for(&mut self, rt: &impl Abort, alloc: Global, call: &Call) -> FramesIn
+        ensures same { self.new ≡ self.old }
+        ensures own { AllAre (bank_of self.old (kind_taken call.now)) (frames_of result) }
+        ensures agrees { Agrees call.now result }
+    {
+        match call {
+            Call::Read { brought, .. }
+            | Call::Write { brought, .. }
+            | Call::Retry { brought, .. }
+            | Call::Supply { brought, .. }
+            | Call::Dirty { brought, .. }
+            | Call::Pin { brought, .. }
+            | Call::Vacate { brought } => self.bring(rt, alloc, FrameKind::Ordinary, *brought),
+            Call::Borrow { brought, .. } => self.bring(rt, alloc, FrameKind::Loaned, *brought),
+            _ => FramesIn::NoneYet,
         }
+    }
+}
+
+// A scan that found no frame.
+fn a_scan(rt: &impl Abort, alloc: Global) -> Scan {
+    let (bank, mut seat) = Bank::new(alloc, FrameKind::Ordinary, 1)
+        .ok()
+        .expect(rt, "a bank");
+    let frame = bank.claim(&mut seat).ok().expect(rt, "a frame at home");
+    match bank.claim(&mut seat) {
+        Err(scan) => {
+            bank.give(&mut seat, frame);
+            scan
+        }
+        Ok(_other) => panic!(rt; "no frame at home"),
     }
 }

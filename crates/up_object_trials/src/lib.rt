@@ -1,10 +1,12 @@
-//! Each call of `up_fault`, `up_supply` and `up_reclaim` once on its happy path and with ample memory. They stand here, above all three, since an access
-//! gives bytes only after a supply.
+//! Rows of calls on an object with the replies that they are to get, done as lists of requests. They stand here, above all crates of calls, since
+//! an access gives bytes only after a supply.
 #![tactic(auto)]
 
 #[cfg(test)]
-mod calls;
-#[cfg(test)]
 mod desk;
 #[cfg(test)]
-mod reclaiming;
+mod playing;
+#[cfg(test)]
+mod refusals;
+#[cfg(test)]
+mod rows;
