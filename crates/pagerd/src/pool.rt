@@ -1,5 +1,5 @@
 ghost use Rattle.std.specs.Prelude.{◌≡◌, ◌+◌, ◌-◌, ◌<◌, ◌≤◌, [], ◌∷◌, true, length, sum, IfOk, OnOk, OnErr};
-ghost use Rattle.up_bank.specs.Standing.{frames_of};
+ghost use Rattle.up_bank.specs.Standing.{frames_of, most_frames};
 ghost use Rattle.up_bank.specs.declared.kind.FrameKind.TheVariants.{Ordinary as OrdinaryKind, Loaned as LoanedKind};
 ghost use Rattle.up_pages.specs.Frames.{count_kind};
 ghost use Rattle.up_object.specs.Parts.{bank_of};
@@ -36,8 +36,8 @@ impl Model for Pool {
 impl Pool {
     /// So many frames of each kind, all at home.
     pub fn new(alloc: Global, ordinary: u32, loaned: u32) -> Result<Pool, Memory>
-        requires ordinary { (0 < ordinary) × (ordinary ≤ 16384) }
-        requires loaned { (0 < loaned) × (loaned ≤ 4096) }
+        requires ordinary { (0 < ordinary) × (ordinary ≤ most_frames) }
+        requires loaned { (0 < loaned) × (loaned ≤ most_frames) }
         ensures home { IfOk result (λ pool. pool.home ≡ ordinary) }
         ensures kinds { IfOk result (λ pool. (pool.banks.ordinary.kind ≡ OrdinaryKind) × (pool.banks.loaned.kind ≡ LoanedKind)) }
     {
