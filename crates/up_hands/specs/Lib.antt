@@ -1,2 +1,9 @@
 pub mod Handed
 pub mod Carried
+pub mod Entering
+pub mod Pools
+pub mod Soles
+pub mod Machines
+pub mod Machined
+pub mod Keeping
+pub mod Standing
