@@ -3,7 +3,9 @@ pub mod Carried
 pub mod Entering
 pub mod Pools
 pub mod Soles
+pub mod Paired
 pub mod Machines
 pub mod Machined
+pub mod Flocks
 pub mod Keeping
 pub mod Standing

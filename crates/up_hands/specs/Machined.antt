@@ -1,5 +1,5 @@
 -- What contracts see of objects with their frames and a clock, and what a call and a relief make of it.
-use Rattle.std.specs.Prelude.{◌≡◌, ℕ, ◌+◌, Some, List, [], ◌∷◌, length, reverse, slice_get}
+use Rattle.std.specs.Prelude.{◌≡◌, ℕ, ◌+◌, Some, List, [], ◌∷◌, length, slice_get}
 use Rattle.up_bank.specs.declared.kind.FrameKind.{FrameKind}
 use Rattle.up_model.specs.Legal.{Life}
 use Rattle.up_model.specs.Reply as replies
@@ -60,13 +60,20 @@ pub record Evicted (old new : Machined) (who : ℕ) (made : List Entered) : Type
   pub owned : (kind : FrameKind) → owned kind new ≡ owned kind old
 
 -- a relief by so many pages was made in the name of an actor
-pub record Relieved (old new : Machined) (who want : ℕ) (level : Level) : Type 0 where
+pub record ReliefMade (old new : Machined) (who want : ℕ) (level : Level) : Type 0 where
   pub made : List Entered
   pub evicted : Evicted old new who made
   pub asked : Relieves want (turns (age_limits level) (length old.lives)) [] (culls_of made)
 
--- a relief has come so far; culls stand oldest first
-pub record WentSoFar (old now : Machined) (who : ℕ) (culls : List Cull) : Type 0 where
+-- a relief has come so far: from where, to where, in whose name, and what was asked for and given, newest first
+pub record Gone : Type 0 where
+  pub start : Machined
+  pub now : Machined
+  pub who : ℕ
+  pub culls : List Cull
+
+-- these evicts were made so far
+pub record WentSoFar (gone : Gone) : Type 0 where
   pub made : List Entered
-  pub evicted : Evicted old now who made
-  pub culled : culls_of made ≡ reverse culls
+  pub evicted : Evicted gone.start gone.now gone.who made
+  pub culled : culls_of made ≡ gone.culls

@@ -1,10 +1,11 @@
 ghost use Rattle.std.specs.Prelude.{◌≡◌, ◌<◌, length, OnOk};
 ghost use Rattle.up_bank.specs.declared.kind.FrameKind.{FrameKind as FrameKindValue};
-ghost use Rattle.up_hands.specs.Machined.{Relieved, Stays, WentSoFar, owned};
+ghost use Rattle.up_hands.specs.Machined.{ReliefMade, Stays, owned};
 
 use crate::machine::Machine;
 use core::mem::replace_with;
 use std::alloc::Global;
+use std::marker::Model;
 use std::snapshot::Snapshot;
 use up_evictor::{Cull, Herd, Level, relieve};
 use up_model::{Call, Reply};
@@ -17,20 +18,31 @@ struct Flock {
     start: Snapshot<Machine>,
     who: u32,
     culls: Vec<Cull>,
-    ghost so_far: { WentSoFar start.value machine who culls.items },
+}
+
+impl Model for Flock {
+    ghost use Rattle.std.specs.Prelude.{reverse};
+    ghost use Rattle.up_hands.specs.Machined.{Gone};
+    ghost use Rattle.up_hands.specs.Flocks.{FlockStands};
+
+    ghost Value = { Gone };
+
+    ghost view = { λ o. record { start = o.start.value; now = o.machine; who = o.who; culls = reverse o.culls.items } };
+
+    ghost invariant = { FlockStands };
 }
 
 impl Herd for Flock {
-    ghost use Rattle.std.specs.Prelude.{ℕ, length, reverse};
+    ghost use Rattle.std.specs.Prelude.{ℕ, length};
     ghost use Rattle.up_hands.specs.Machined.{Machined};
 
     ghost Origin = { Machined × ℕ };
 
-    ghost origin = { λ flock. (flock.start.value, flock.who) };
+    ghost origin = { λ flock. (flock.start, flock.who) };
 
-    ghost size = { λ flock. length flock.machine.lives };
+    ghost size = { λ flock. length flock.now.lives };
 
-    ghost culls = { λ flock. reverse flock.culls.items };
+    ghost culls = { λ flock. flock.culls };
 
     fn objects(&self) -> u32 {
         self.machine.objects()
@@ -81,7 +93,7 @@ pub fn relieve_for(
     want: u32,
     level: Level,
 ) -> Result<(), Memory>
-    ensures ok { OnOk result (Relieved machine.old machine.new who want level) }
+    ensures ok { OnOk result (ReliefMade machine.old machine.new who want level) }
     ensures stays { Stays machine.old machine.new }
     ensures frames { (kind : FrameKindValue) → owned kind machine.new ≡ owned kind machine.old }
 {
@@ -95,7 +107,7 @@ pub fn relieve_for(
 }
 
 fn relieve_all(machine: Machine, relieving: Relieving) -> (Machine, Result<(), Memory>)
-    ensures ok { OnOk result.1 (Relieved machine result.0 relieving.who relieving.want relieving.level) }
+    ensures ok { OnOk result.1 (ReliefMade machine result.0 relieving.who relieving.want relieving.level) }
     ensures stays { Stays machine result.0 }
     ensures frames { (kind : FrameKindValue) → owned kind result.0 ≡ owned kind machine }
 {

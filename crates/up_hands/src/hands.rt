@@ -1,10 +1,14 @@
-ghost use Rattle.std.specs.Prelude.{◌≡◌, ◌<◌, ◌≤◌, ◌^◌, List, [], true, length, map, replicate, IfOk, IfSome, OnOk};
+ghost use Rattle.std.specs.Prelude.{◌≡◌, ◌+◌, ◌<◌, ◌≤◌, ◌^◌, [], true, length, map, min, replicate, slice_index, slice_set, IfOk, IfSome, OnOk, OnErr, None};
 ghost use Rattle.std.specs.List.{list_all};
 ghost use Rattle.up_bank.specs.Standing.{BankId};
+ghost use Rattle.up_bank.specs.declared.kind.FrameKind.TheVariants.{Ordinary as OrdinaryKind, Loaned as LoanedKind};
+ghost use Rattle.up_clock.specs.Known.{last_age};
+ghost use Rattle.up_worker.specs.declared.wish.Heard.TheVariants.{Done as DoneHeard};
+ghost use Rattle.up_object.specs.Parts.{is_loan};
 ghost use Rattle.up_worker.specs.declared.wish.Wish.TheVariants as wishes;
 ghost use Rattle.up_hands.specs.Handed.{empty_hand, births_in, new_life, ends_of, is_fair, AllLegal};
-ghost use Rattle.up_hands.specs.Carried.{is_done_here, object_of, hand_for, IsProper, AsksForSome, Done, SameShape};
-ghost use Rattle.up_hands.specs.Keeping.{AllKept, counts_of};
+ghost use Rattle.up_hands.specs.Carried.{is_done_here, object_of, hand_for, hand_after, IsProper, AsksForSome, Done, SameShape};
+ghost use Rattle.up_hands.specs.Keeping.{AllKept, Eased, Taken, at_home, counts_of};
 
 use crate::flock::relieve_for;
 use crate::machine::Machine;
@@ -120,8 +124,10 @@ impl Hands {
         requires hand { self.old.hand ≡ hand_for wish }
         requires some { AsksForSome wish }
         ensures done { Done self.old self.new who wish result }
+        ensures hand { IfOk result (λ heard. self.new.hand ≡ hand_after wish heard) }
         ensures legal { AllLegal self.new.lives }
         ensures births { births_in self.new.lives ≡ births_in self.old.lives }
+        ensures objects { length self.new.lives ≡ length self.old.lives }
         ensures actors { length self.new.kept ≡ length self.old.kept }
     {
         let heard = match wish {
@@ -141,16 +147,23 @@ impl Hands {
         requires hand { self.old.hand ≡ empty_hand }
         requires some { AsksForSome wish }
         ensures done { Done self.old self.new who wish result }
+        ensures hand { IfOk result (λ heard. self.new.hand ≡ hand_after wish heard) }
         ensures shape { SameShape self.old self.new }
     {
         match wish {
             Wish::Gather(count) => self.gather(alloc, who, count),
-            Wish::Loan => self.borrow_one(alloc),
+            Wish::Loan => self.take_up(alloc, FrameKind::Loaned, 1),
             Wish::Keep => self.keep(who),
-            Wish::Give => Ok(self.give(alloc, who)),
+            Wish::Give => {
+                self.give(alloc, who);
+                Ok(Heard::Done)
+            }
             Wish::Relieve(frames) => self.relieve(alloc, who, frames),
             Wish::Watch => self.watch(alloc, who),
-            Wish::Age => Ok(self.age()),
+            Wish::Age => {
+                self.age();
+                Ok(Heard::Done)
+            }
             Wish::Park { .. } => Ok(Heard::Done),
             _ => unreachable!(),
         }
@@ -162,6 +175,7 @@ impl Hands {
         requires proper { IsProper self.old.lives who (wishes.Act object call) }
         requires hand { self.old.hand ≡ hand_for (wishes.Act object call) }
         ensures done { Done self.old self.new who (wishes.Act object call) result }
+        ensures hand { IfOk result (λ heard. self.new.hand ≡ hand_after (wishes.Act object call) heard) }
         ensures shape { SameShape self.old self.new }
     {
         let frames = replace(&mut self.hand, FramesIn::NoneYet);
@@ -175,6 +189,7 @@ impl Hands {
         requires object { object < length self.old.lives }
         requires hand { self.old.hand ≡ empty_hand }
         ensures done { Done self.old self.new who (wishes.Resize object pages) result }
+        ensures hand { IfOk result (λ heard. self.new.hand ≡ hand_after (wishes.Resize object pages) heard) }
         ensures shape { SameShape self.old self.new }
     {
         let call = Call::Resize { pages };
@@ -188,66 +203,81 @@ impl Hands {
         requires hand { self.old.hand ≡ empty_hand }
         requires some { 0 < count }
         ensures done { Done self.old self.new who (wishes.Gather count) result }
+        ensures hand { IfOk result (λ heard. self.new.hand ≡ hand_after (wishes.Gather count) heard) }
         ensures shape { SameShape self.old self.new }
     {
-        let free = self.machine.free();
-        if free < count {
-            relieve_for(&mut self.machine, alloc, who, count - free, Level::Empty)?;
+        let free = self.free();
+        if free >= count {
+            return self.take_up(alloc, FrameKind::Ordinary, count);
         }
+        self.ease(alloc, who, count - free, Level::Empty)?;
         self.take_up(alloc, FrameKind::Ordinary, count)
     }
 
-    /// Brings one loaned frame, or a scan where none is at home.
-    fn borrow_one(&mut self, alloc: Global) -> Result<Heard, Memory>
-        requires hand { self.old.hand ≡ empty_hand }
-        ensures done { (who : ℕ) → Done self.old self.new who wishes.Loan result }
-        ensures shape { SameShape self.old self.new }
+    /// How many ordinary frames are at home.
+    fn free(&mut self) -> u32
+        requires { self.old.hand ≡ empty_hand }
+        ensures value { result ≡ at_home OrdinaryKind self.old }
+        ensures same { self.new ≡ self.old }
     {
-        self.take_up(alloc, FrameKind::Loaned, 1)
+        self.machine.free()
     }
 
     /// Takes so many frames of a kind in hand, or a scan where fewer are at home.
     fn take_up(&mut self, alloc: Global, kind: FrameKind, count: u32) -> Result<Heard, Memory>
         requires hand { self.old.hand ≡ empty_hand }
         requires some { 0 < count }
-        ensures shape { SameShape self.old self.new }
+        ensures taken { IfOk result (λ heard. Taken self.old self.new kind count heard) }
+        ensures same { OnErr result (self.new ≡ self.old) }
     {
+        let _ = self.machine.objects();
         let frames = self.machine.gather(alloc, kind, count)?;
         let brought = frames.brought();
         replace(&mut self.hand, frames).into_frames(alloc).end();
-        self.lent = kind == FrameKind::Loaned;
+        self.lent = is_loan(kind);
         Ok(Heard::Brought(brought))
+    }
+
+    /// Makes pages absent in the name of an actor.
+    fn ease(&mut self, alloc: Global, who: u32, want: u32, level: Level) -> Result<(), Memory>
+        ensures eased { OnOk result (Eased self.old self.new who want level) }
+        ensures shape { SameShape self.old self.new }
+        ensures hand { self.new.hand ≡ self.old.hand }
+    {
+        relieve_for(&mut self.machine, alloc, who, want, level)
     }
 
     /// An actor keeps all loaned frames that are at home.
     fn keep(&mut self, who: u32) -> Result<Heard, Memory>
         requires known { who < length self.old.kept }
         requires hand { self.old.hand ≡ empty_hand }
-        ensures done { Done self.old self.new who wishes.Keep result }
-        ensures shape { SameShape self.old self.new }
+        ensures ok { OnOk result (self.new ≡ record self.old { kept = slice_set self.old.kept who (slice_index self.old.kept who + at_home LoanedKind self.old) }) }
+        ensures done { IfOk result (λ heard. heard ≡ DoneHeard) }
+        ensures same { OnErr result (self.new ≡ self.old) }
     {
+        let _ = self.machine.objects();
         self.machine.gather_all(&mut self.kept[who as usize])?;
         Ok(Heard::Done)
     }
 
     /// An actor gives the loaned frames back that it kept.
-    fn give(&mut self, alloc: Global, who: u32) -> Heard
-        requires known { who < length self.old.kept }
-        requires hand { self.old.hand ≡ empty_hand }
-        ensures shape { SameShape self.old self.new }
+    fn give(&mut self, alloc: Global, who: u32)
+        requires { who < length self.old.kept }
+        ensures { self.new ≡ record self.old { kept = slice_set self.old.kept who 0 } }
     {
+        let _ = self.machine.objects();
         let frames = replace(&mut self.kept[who as usize], Frames::new(alloc));
         self.machine.bring_home(frames);
-        Heard::Done
     }
 
     /// A relief by so many frames, as where none is free.
     fn relieve(&mut self, alloc: Global, who: u32, frames: u32) -> Result<Heard, Memory>
         requires hand { self.old.hand ≡ empty_hand }
         ensures done { Done self.old self.new who (wishes.Relieve frames) result }
+        ensures hand { IfOk result (λ heard. self.new.hand ≡ hand_after (wishes.Relieve frames) heard) }
         ensures shape { SameShape self.old self.new }
     {
-        relieve_for(&mut self.machine, alloc, who, frames, Level::Empty)?;
+        self.ease(alloc, who, frames, Level::Empty)?;
         Ok(Heard::Done)
     }
 
@@ -255,22 +285,31 @@ impl Hands {
     fn watch(&mut self, alloc: Global, who: u32) -> Result<Heard, Memory>
         requires hand { self.old.hand ≡ empty_hand }
         ensures done { Done self.old self.new who wishes.Watch result }
+        ensures hand { IfOk result (λ heard. self.new.hand ≡ hand_after wishes.Watch heard) }
         ensures shape { SameShape self.old self.new }
     {
-        let free = self.machine.free();
+        let free = self.free();
         let missing = self.levels.warn.saturating_sub(free);
         let level = self.levels.level(free);
-        relieve_for(&mut self.machine, alloc, who, missing, level)?;
+        self.ease(alloc, who, missing, level)?;
         Ok(Heard::Done)
     }
 
     /// The clock ages.
-    fn age(&mut self) -> Heard
-        requires hand { self.old.hand ≡ empty_hand }
-        ensures shape { SameShape self.old self.new }
+    fn age(&mut self)
+        ensures { self.new ≡ record self.old { ages = min (self.old.ages + 1) last_age } }
     {
         self.machine.age();
-        Heard::Done
+    }
+}
+
+/// Whether these frames are loaned.
+fn is_loan(kind: FrameKind) -> bool
+    ensures { result ≡ is_loan kind }
+{
+    match kind {
+        FrameKind::Ordinary => false,
+        FrameKind::Loaned => true,
     }
 }
 
@@ -291,6 +330,7 @@ fn bring_lists(machine: &mut Machine, lists: Vec<Frames>)
     requires { AllKept machine.old.pool.loaned.bank lists.items }
     ensures { machine.new.lives ≡ machine.old.lives }
 {
+    let _ = machine.objects();
     let mut rest = lists;
     while let Some(frames) = rest.pop() {
         machine.bring_home(frames);

@@ -218,6 +218,7 @@ fn act_on(
     ensures reply { IfOk result (λ reply. reply ≡ replies.reply object.old.birth object.old.journal by.who by.epoch call) }
     ensures ok { OnOk result (object.new ≡ after object.old by.who by.epoch call) }
     ensures err { OnErr result (object.new ≡ object.old) }
+    ensures kept { (object.new.birth ≡ object.old.birth) × (object.new.banks ≡ object.old.banks) }
     ensures banks { banks_of pool.new ≡ banks_of pool.old }
     ensures frames { (kind : FrameKindValue) → (stored kind pool.new).home + held object.new.birth object.new.journal kind ≡ (stored kind pool.old).home + held object.old.birth object.old.journal kind + count_kind kind (frames_of frames) }
     ensures legal { Legal object.new.birth object.new.journal }
@@ -244,8 +245,8 @@ fn born(alloc: Global, births: &[Birth], pool: &mut Pool) -> Result<Vec<Object>,
     ensures pool { OnOk result (pool.new ≡ pool.old) }
 {
     let mut objects = Vec::with_capacity(alloc, births.len())?;
-    for birth in births {
-        match pool.birth(alloc, *birth) {
+    for one in births {
+        match pool.birth(alloc, *one) {
             Ok(object) => objects.push_reserved(object),
             Err(memory) => {
                 let_go(objects, pool);

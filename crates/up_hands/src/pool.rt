@@ -23,7 +23,7 @@ pub struct Pool {
 
 impl Model for Pool {
     ghost use Rattle.up_hands.specs.Pools.{Pooled};
-    ghost use Rattle.up_hands.specs.Soles.{PoolStands};
+    ghost use Rattle.up_hands.specs.Paired.{PoolStands};
 
     ghost Value = { Pooled };
 

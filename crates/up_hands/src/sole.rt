@@ -1,5 +1,5 @@
-ghost use Rattle.std.specs.Prelude.{◌≡◌, ◌+◌, ◌-◌, ◌<◌, ◌≤◌, cond, length, nat_le, IfOk, OnOk, OnErr};
-ghost use Rattle.up_bank.specs.Standing.{most_frames};
+ghost use Rattle.std.specs.Prelude.{◌≡◌, ◌+◌, ◌<◌, ◌≤◌, cond, true, length, max, nat_le, sum, IfOk, IfSome, OnOk, OnErr};
+ghost use Rattle.up_bank.specs.Standing.{first_seat, frames_of as frames_in_bank, most_frames};
 ghost use Rattle.up_model.specs.declared.entry.Brought.TheVariants.{Frames as FramesBrought, Scanned as ScanBrought};
 ghost use Rattle.up_object.specs.Change.{AllAre};
 ghost use Rattle.up_object.specs.Steps.{brought_of, frames_of};
@@ -39,11 +39,7 @@ impl SoleBank {
         ensures home { IfOk result (λ made. made.home ≡ frames) }
     {
         let (bank, mut seat) = Bank::new(alloc, kind, frames.max(1))?;
-        let aside = if frames == 0 {
-            bank.claim(&mut seat).ok()
-        } else {
-            None
-        };
+        let aside = put_aside(&bank, &mut seat, frames);
         Ok(SoleBank { bank, seat, aside })
     }
 
@@ -139,10 +135,28 @@ impl SoleBank {
         let free = self.free();
         into.make_room(free)?;
         for _place in 0..free {
-            if let Ok(frame) = self.claim() {
-                into.put(frame);
+            match self.claim() {
+                Ok(frame) => into.put(frame),
+                Err(_) => unreachable!(),
             }
         }
         Ok(())
+    }
+}
+
+/// The only frame of a bank that is to have none.
+fn put_aside(bank: &Bank, seat: &mut BankSeat, frames: u32) -> Option<Frame>
+    requires new { seat.old ≡ first_seat bank.now }
+    requires count { frames_in_bank bank.now ≡ max frames 1 }
+    ensures frame { IfSome result (λ frame. frame.bank ≡ bank.now) }
+    ensures seat { (seat.new.bank ≡ bank.now) × (seat.new.sole ≡ true) }
+    ensures home { sum seat.new.home ≡ frames }
+{
+    if frames > 0 {
+        return None;
+    }
+    match bank.claim(seat) {
+        Ok(frame) => Some(frame),
+        Err(_) => unreachable!(),
     }
 }
