@@ -15,14 +15,15 @@ births_many : (births : List Birth) → length (map new_life births) ≡ length 
 births_many [] = refl
 births_many (birth ∷ births) = ap suc (births_many births)
 
-pub born_one : (births : List Birth) (n : ℕ) (birth : Birth) (old new : List Whole) (whole : Whole) → n < length births → birth ≡ get_or births n birth → new ≡ old ++ whole ∷ [] →
-    life_of whole ≡ new_life birth → map life_of old ≡ map new_life (take n births) → map life_of new ≡ map new_life (take (n + 1) births)
-born_one births n birth old new whole within is e life so_far =
+pub born_one : (births : List Birth) (n : ℕ) (other : Birth) (old new : List Whole) (whole : Whole) → n < length births → new ≡ old ++ whole ∷ [] →
+    life_of whole ≡ new_life (get_or births n other) → map life_of old ≡ map new_life (take n births) → map life_of new ≡ map new_life (take (n + 1) births)
+born_one births n other old new whole within e life so_far =
     let next : suc n ≡ n + 1 = omega arith in
-    let more : take (n + 1) births ≡ take n births ++ birth ∷ [] =
-    subst (λ (k : ℕ). take k births ≡ take n births ++ birth ∷ []) next (take-suc births n birth within ∙ ap (λ (b : Birth). take n births ++ b ∷ []) (sym is)) in
-    ap (map life_of) e ∙ map-append life_of old (whole ∷ []) ∙ (ap (λ (l : Life). map life_of old ++ l ∷ []) life ∙ ap (λ (ls : List Life). ls ++ new_life birth ∷ []) so_far)
-    ∙ sym (ap (map new_life) more ∙ map-append new_life (take n births) (birth ∷ []))
+    let more : take (n + 1) births ≡ take n births ++ get_or births n other ∷ [] =
+    subst (λ (k : ℕ). take k births ≡ take n births ++ get_or births n other ∷ []) next (take-suc births n other within) in
+    ap (map life_of) e ∙ map-append life_of old (whole ∷ [])
+    ∙ (ap (λ (l : Life). map life_of old ++ l ∷ []) life ∙ ap (λ (ls : List Life). ls ++ new_life (get_or births n other) ∷ []) so_far)
+    ∙ sym (ap (map new_life) more ∙ map-append new_life (take n births) (get_or births n other ∷ []))
 
 pub same_many : (wholes : List Whole) (births : List Birth) → map life_of wholes ≡ map new_life births → length wholes ≡ length births
 same_many wholes births is = sym (lives_many wholes) ∙ ap (λ (ls : List Life). length ls) is ∙ births_many births

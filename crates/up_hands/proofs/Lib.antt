@@ -9,3 +9,4 @@ pub mod Ended
 pub mod Kept
 pub mod Born
 pub mod Homes
+pub mod Alive

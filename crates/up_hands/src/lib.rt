@@ -6,5 +6,7 @@ mod hands;
 mod machine;
 mod pool;
 mod sole;
+#[cfg(test)]
+mod tests;
 
 pub use hands::Hands;

@@ -12,7 +12,7 @@ loop-one-preserved c =
     let so_far = c.loop-one.invariant.count in
     let room = c.loop-one.invariant.room in
     record {
-      made = born_one c.args.births.now c.loop-one.one-index c.one-item.result _ _ c.in-Ok.object (omega arith) c.one-item.is c.push_reserved.ensures.items (ap life_of c.in-Ok.ensures) c.loop-one.invariant.made;
+      made = born_one c.args.births.now c.loop-one.one-index _ _ _ c.in-Ok.object (omega arith) c.push_reserved.ensures.items (ap life_of c.in-Ok.ensures) c.loop-one.invariant.made;
       count = omega arith;
       room = omega arith;
       banks = banks_pushed (banks_of c.args.pool.now) _ _ c.in-Ok.object c.push_reserved.ensures.items c.loop-one.invariant.banks
