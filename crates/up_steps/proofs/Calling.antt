@@ -17,7 +17,7 @@ use Rattle.up_steps.specs.Told.{last_parks}
 use Rattle.up_worker.specs.declared.course.Aim.{Aim}
 
 -- a call that brings something else
-before_brought : (b : Brought) (call : Call) → frames_before (bringing b call) ≡ frames_before call
+pub before_brought : (b : Brought) (call : Call) → frames_before (bringing b call) ≡ frames_before call
 before_brought b (calls.Read piece last old) = refl
 before_brought b (calls.Write off bytes last old) = refl
 before_brought b (calls.Retry ticket old) = refl
@@ -28,7 +28,7 @@ before_brought b (calls.Borrow page old) = refl
 before_brought b (calls.Vacate old) = refl
 before_brought b _ = refl
 
-borrows_brought : (b : Brought) (call : Call) → borrows (bringing b call) ≡ borrows call
+pub borrows_brought : (b : Brought) (call : Call) → borrows (bringing b call) ≡ borrows call
 borrows_brought b (calls.Read piece last old) = refl
 borrows_brought b (calls.Write off bytes last old) = refl
 borrows_brought b (calls.Retry ticket old) = refl

@@ -220,7 +220,7 @@ record Known (j : Judge) (start : List Entered) (a : Acting) (now made : List En
   parks_of : may_park x.entry.call ≡ true → may_park one.call ≡ true
   retries : is_retry x.entry.call ≡ true → is_some a.ticket ≡ true
 
-bring_again : (b c : Brought) (call : Call) → bringing b (bringing c call) ≡ bringing b call
+pub bring_again : (b c : Brought) (call : Call) → bringing b (bringing c call) ≡ bringing b call
 bring_again b c (calls.Read piece last old) = refl
 bring_again b c (calls.Write off bytes last old) = refl
 bring_again b c (calls.Retry ticket old) = refl
@@ -231,7 +231,7 @@ bring_again b c (calls.Borrow page old) = refl
 bring_again b c (calls.Vacate old) = refl
 bring_again b c _ = refl
 
-same_wanted : (made : List Entered) (call other : Call) → frames_before call ≡ frames_before other → wanted made call ≡ wanted made other
+pub same_wanted : (made : List Entered) (call other : Call) → frames_before call ≡ frames_before other → wanted made call ≡ wanted made other
 same_wanted made call other same = by_asked (asked (behind made)) call other same
   where
     by_asked : (m : Option ℕ) (call other : Call) → frames_before call ≡ frames_before other → or_supplied m call ≡ or_supplied m other
