@@ -1,5 +1,5 @@
 -- The entries of an actor are told by its lines in one way alone.
-use Rattle.std.proofs.Common.{◌≡◌, ℕ, zero, suc, ◌+◌, ◌<◌, ◌≤◌, ◌++◌, ◌⊎◌, ◌||◌, Bool, true, false, cond, Option, Some, None, List, [], ◌∷◌, length, refl, sym, ap, ◌∙◌, subst, arith, inl, inr, slice_get, append_assoc, length-append}
+use Rattle.std.proofs.Common.{◌≡◌, ℕ, zero, suc, ◌+◌, ◌≤◌, ◌++◌, ◌⊎◌, ◌||◌, Bool, true, false, cond, Option, Some, None, List, [], ◌∷◌, length, refl, sym, ap, ◌∙◌, subst, arith, inl, inr, slice_get, append_assoc, length-append}
 use Rattle.up_script.specs.declared.script.Kind.{Kind}
 use Rattle.up_model.specs.declared.entry.Brought.{Brought}
 use Rattle.up_worker.specs.Calls.{bringing, calls_of, is_access}

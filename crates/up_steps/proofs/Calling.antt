@@ -1,8 +1,6 @@
 -- Of calls, replies and evicts: what bringing frames leaves as it is, and what evicts leave as it was.
-use Rattle.std.proofs.Common.{◌≡◌, ℕ, ◌+◌, ◌==◌, ◌||◌, ◌++◌, not, Bool, true, false, cond, is_some, Option, Some, None, List, [], ◌∷◌, refl, sym, ap, ◌∙◌, subst, arith, inl, inr}
-use Rattle.std.proofs.lemmas.Bool.Decides.{nat_tests}
+use Rattle.std.proofs.Common.{◌≡◌, ℕ, ◌==◌, ◌||◌, ◌++◌, Bool, true, false, cond, is_some, Option, Some, None, List, [], ◌∷◌, refl, sym, ap, ◌∙◌}
 use Rattle.up_model.specs.declared.entry.Brought.{Brought}
-use Rattle.up_model.specs.declared.entry.Brought.TheVariants.{Nothing}
 use Rattle.up_model.specs.declared.entry.Call.{Call}
 use Rattle.up_model.specs.declared.entry.Call.TheVariants as calls
 use Rattle.up_model.specs.declared.entry.Reply.{Reply}
@@ -10,11 +8,10 @@ use Rattle.up_model.specs.declared.entry.Reply.TheVariants as replies
 use Rattle.up_worker.specs.Calls.{bringing, frames_before, borrows}
 use Rattle.up_worker.specs.Frames.{Judge, front, behind}
 use Rattle.up_worker.specs.Lives.{Entered, is_evict, gives_pages, OwnEvicts}
-use Rattle.up_worker.specs.Wishes.{settles, is_refused, ticket_after, attempt}
+use Rattle.up_worker.specs.Wishes.{settles, ticket_after, attempt}
 use Rattle.up_steps.specs.Asked.{parks, may_park, without_evicts, supplied, AllBring}
 use Rattle.up_steps.specs.Steps.{Stops}
 use Rattle.up_steps.specs.Told.{last_parks}
-use Rattle.up_worker.specs.declared.course.Aim.{Aim}
 
 -- a call that brings something else
 pub before_brought : (b : Brought) (call : Call) → frames_before (bringing b call) ≡ frames_before call

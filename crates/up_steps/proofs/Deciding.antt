@@ -1,35 +1,22 @@
 -- Two lists of entries that are the steps of the same lines are one.
-use Rattle.std.proofs.Common.{◌≡◌, ℕ, ◌+◌, ◌-◌, ◌<◌, ◌==◌, ◌++◌, ◌⊎◌, Bool, true, false, cond, nat_le, Option, Some, None, List, [], ◌∷◌, length, refl, sym, ap, ◌∙◌, subst, arith, inl, inr, slice_get, append_assoc}
+use Rattle.std.proofs.Common.{◌≡◌, ℕ, ◌-◌, ◌++◌, ◌⊎◌, Bool, true, false, cond, nat_le, Option, Some, None, List, [], ◌∷◌, refl, sym, ap, ◌∙◌, subst, inl, inr}
 use Rattle.up_model.specs.declared.entry.Brought.{Brought}
-use Rattle.up_model.specs.declared.entry.Brought.TheVariants.{Nothing, Frames, Scanned}
 use Rattle.up_model.specs.declared.entry.Call.{Call}
-use Rattle.up_model.specs.declared.entry.Call.TheVariants as calls
 use Rattle.up_model.specs.declared.entry.Reply.{Reply}
-use Rattle.up_evictor.specs.Levels.{level_of, age_limits}
-use Rattle.up_evictor.specs.Relief.{Ask, turns}
+use Rattle.up_evictor.specs.Levels.{age_limits}
+use Rattle.up_evictor.specs.Relief.{turns}
 use Rattle.up_evictor.specs.declared.levels.Level.TheVariants.{Empty}
-use Rattle.up_script.specs.Objects.{is_evictor}
-use Rattle.up_script.specs.declared.script.Action.{Action}
-use Rattle.up_script.specs.declared.script.Action.TheVariants as actions
-use Rattle.up_script.specs.declared.script.Kind.{Kind}
-use Rattle.up_script.specs.declared.script.Line.{Line}
-use Rattle.up_worker.specs.Calls.{bringing, calls_in, borrows}
+use Rattle.up_worker.specs.Calls.{bringing, borrows}
 use Rattle.up_worker.specs.Frames.{Judge, front, behind, asked}
-use Rattle.up_worker.specs.Lives.{Entered, is_evict, OwnEvicts}
-use Rattle.up_worker.specs.Thread.{culls_of}
+use Rattle.up_worker.specs.Lives.{Entered, is_evict}
 use Rattle.up_worker.specs.Wishes.{attempt}
 use Rattle.up_worker.specs.declared.course.Aim.{Aim}
-use Rattle.up_worker.specs.declared.course.Doing.{Doing}
-use Rattle.up_steps.specs.Asked.{without_evicts, settled_in, ticket_in, AreNext, IsDone, or_supplied, wanted, Comes, Brings, AllBring}
-use Rattle.up_steps.specs.Laws.{Answered, StepsDecide}
-use Rattle.up_steps.specs.Steps.{Setting, Moment, moment_after, judge_at, AllBy, AllAt, Stops, IsFramed, EvictsOne, AllMade, OneCall, Evictors, IsFar, GoesFar, Does, Block, LineDone, Steps}
-use Rattle.up_steps.specs.Told.{own, last_parks, parked, is_go, given_to, kind_at, objects_at, Told}
-use Rattle.up_steps.proofs.Aligning.{done_none, Under, told_under_none, under_once, For, told_for_all, part_for}
-use Rattle.up_steps.proofs.Calling.{before_brought, borrows_brought, behind_same, without_append}
-use Rattle.up_steps.proofs.Chaining.{Chain, decided, Common, commons, same_next}
+use Rattle.up_steps.specs.Asked.{without_evicts, or_supplied, wanted, Comes, Brings, AllBring}
+use Rattle.up_steps.specs.Steps.{Setting, Moment, judge_at, IsFramed}
+use Rattle.up_steps.proofs.Calling.{before_brought, borrows_brought, behind_same}
+use Rattle.up_steps.proofs.Chaining.{Chain, Common, same_next}
 use Rattle.up_steps.proofs.Going.{bring_again, same_wanted}
-use Rattle.up_steps.proofs.Owning.{own_mine}
-use Rattle.up_steps.proofs.Relieving.{Relieved, NextEvict, Evicts, AllEvicts, own_evict, front_evicts, IsRelief, relief_of, same_evict, ends_relief}
+use Rattle.up_steps.proofs.Relieving.{NextEvict, Evicts, AllEvicts, front_evicts, IsRelief, relief_of, same_evict, ends_relief}
 
 -- which calls are under way after some entries, without evicts
 abbrev pub Ways : Type 1

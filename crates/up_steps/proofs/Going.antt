@@ -1,8 +1,8 @@
 -- What an actor's entries keep while it does a line: one answer after the other, for every judge of gatherings.
-use Rattle.std.proofs.Common.{◌≡◌, ℕ, ◌+◌, ◌==◌, ◌&&◌, ◌||◌, ◌⊎◌, ◌++◌, not, Bool, true, false, cond, is_some, Option, Some, None, List, [], ◌∷◌, refl, sym, ap, ◌∙◌, subst, arith, inl, inr, slice_get}
+use Rattle.std.proofs.Common.{◌≡◌, ℕ, ◌+◌, ◌==◌, ◌&&◌, ◌||◌, ◌++◌, Bool, true, false, cond, is_some, Option, Some, None, List, [], ◌∷◌, refl, sym, ap, ◌∙◌, subst, arith, inl, inr, slice_get}
 use Rattle.std.proofs.lemmas.Bool.Decides.{nat_tests}
 use Rattle.up_model.specs.declared.entry.Brought.{Brought}
-use Rattle.up_model.specs.declared.entry.Brought.TheVariants.{Nothing, Frames, Scanned}
+use Rattle.up_model.specs.declared.entry.Brought.TheVariants.{Nothing}
 use Rattle.up_model.specs.declared.entry.Call.{Call}
 use Rattle.up_model.specs.declared.entry.Call.TheVariants as calls
 use Rattle.up_model.specs.declared.entry.Entry.{Entry}
@@ -14,8 +14,8 @@ use Rattle.up_script.specs.declared.script.Action.TheVariants as actions
 use Rattle.up_worker.specs.Acting.{Acting, under_way, hears, first_wish, started, next_wish, next_acting}
 use Rattle.up_worker.specs.Calls.{bringing, calls_of, borrows, frames_before, is_access}
 use Rattle.up_worker.specs.Frames.{Judge, JudgedWish, is_quiet, front, behind, asked, needed}
-use Rattle.up_worker.specs.Lives.{Entered, is_evict, is_aid, is_told, is_retry, is_waiting, OwnEvicts, MakesOne, ResizesOne, GathersSome, DoneWithout, Carries}
-use Rattle.up_worker.specs.Wishes.{settles, is_refused, ticket_after, attempt, act_on, makes, last_of, last_wish, begins_call, wants_frames, unsettled}
+use Rattle.up_worker.specs.Lives.{Entered, is_evict, is_told, is_retry, is_waiting, OwnEvicts, MakesOne, ResizesOne, DoneWithout, Carries}
+use Rattle.up_worker.specs.Wishes.{settles, is_refused, ticket_after, attempt, act_on, makes, last_of, last_wish, begins_call, unsettled}
 use Rattle.up_worker.specs.declared.course.Aim.{Aim}
 use Rattle.up_worker.specs.declared.course.Doing.{Doing}
 use Rattle.up_worker.specs.declared.course.Doing.TheVariants.{Idle, OneLine, Leaving}

@@ -1,5 +1,5 @@
 -- Line by line: all that happens at a line makes its block.
-use Rattle.std.proofs.Common.{◌≡◌, ℕ, ◌+◌, ◌<◌, ◌==◌, ◌&&◌, ◌⊎◌, ◌++◌, not, Bool, true, false, cond, is_some, Option, Some, None, List, [], ◌∷◌, length, refl, sym, ap, ◌∙◌, subst, arith, inl, inr, append_assoc, length-append}
+use Rattle.std.proofs.Common.{◌≡◌, ℕ, ◌<◌, ◌==◌, ◌&&◌, ◌⊎◌, ◌++◌, not, Bool, true, false, cond, is_some, Option, Some, None, List, [], ◌∷◌, length, refl, sym, ap, ◌∙◌, subst, arith, inl, inr, length-append}
 use Rattle.std.proofs.lemmas.Bool.Decides.{nat_tests}
 use Rattle.up_model.specs.declared.entry.Brought.TheVariants.{Nothing}
 use Rattle.up_model.specs.declared.entry.Call.{Call}
@@ -8,25 +8,23 @@ use Rattle.up_script.specs.Fit.{may_do}
 use Rattle.up_script.specs.Objects.{is_evictor}
 use Rattle.up_script.specs.declared.script.Action.{Action}
 use Rattle.up_script.specs.declared.script.Action.TheVariants as actions
-use Rattle.up_script.specs.declared.script.Kind.{Kind}
 use Rattle.up_script.specs.declared.script.Line.{Line}
 use Rattle.up_worker.specs.Acting.{Acting, under_way, next_wish, next_acting}
 use Rattle.up_worker.specs.Frames.{Judge, front}
-use Rattle.up_worker.specs.Lives.{Entered, Event, Begins, Hears, lines as begun, MakesOne}
-use Rattle.up_worker.specs.Wishes.{makes, last_of, last_wish}
+use Rattle.up_worker.specs.Lives.{Entered, Event, Begins, Hears, lines as begun}
+use Rattle.up_worker.specs.Wishes.{makes}
 use Rattle.up_worker.specs.declared.course.Aim.{Aim}
 use Rattle.up_worker.specs.declared.course.Doing.{Doing}
-use Rattle.up_worker.specs.declared.course.Doing.TheVariants.{Idle, OneLine}
-use Rattle.up_worker.specs.declared.wish.Heard.{Heard}
+use Rattle.up_worker.specs.declared.course.Doing.TheVariants.{OneLine}
 use Rattle.up_worker.specs.declared.wish.Heard.TheVariants as heard
 use Rattle.up_worker.specs.declared.wish.Wish.{Wish}
 use Rattle.up_worker.specs.declared.wish.Wish.TheVariants as wishes
 use Rattle.up_steps.specs.Laws.{StepsFollow}
-use Rattle.up_steps.specs.Steps.{Setting, Moment, first_moment, moment_after, judge_at, IsFramed, IsFar, GoesFar, Does, Block, LineDone, Steps}
-use Rattle.up_steps.specs.Told.{own, last_parks, parked, is_go, given_to, kind_at, objects_at}
-use Rattle.up_steps.specs.World.{Happening, happens, entries, events_of, said_by, made_by, moment_by, moment_at, moment_in, IsCarried, Follows, OneThread, is_park, rests, is_parked, GoesOn, Began, Woken, LineRan, Ran}
-use Rattle.up_steps.proofs.Answering.{LineDid, line_did}
-use Rattle.up_steps.proofs.Blocks.{Rested, going_moves, plainly_of, rested_of, rested_parked, Ended, goes_plainly, others_stay, answers_begin_none, one_before, Stands, far_of}
+use Rattle.up_steps.specs.Steps.{Setting, Moment, first_moment, moment_after, judge_at, IsFar, GoesFar, Does, Block, LineDone, Steps}
+use Rattle.up_steps.specs.Told.{own, last_parks, parked, is_go, given_to, kind_at}
+use Rattle.up_steps.specs.World.{Happening, happens, entries, events_of, said_by, made_by, moment_by, moment_in, Follows, OneThread, is_park, rests, is_parked, GoesOn, Began, Woken, LineRan, Ran}
+use Rattle.up_steps.proofs.Answering.{line_did}
+use Rattle.up_steps.proofs.Blocks.{going_moves, plainly_of, rested_of, rested_parked, Ended, goes_plainly, others_stay, answers_begin_none, one_before, Stands, far_of}
 use Rattle.up_steps.proofs.Evicting.{timed_last}
 use Rattle.up_steps.proofs.Going.{Says, Going, going_woken}
 use Rattle.up_steps.proofs.Owning.{same_test, own_other, events_mine, events_other}

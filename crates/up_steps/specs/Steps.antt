@@ -1,6 +1,6 @@
 -- What all entries of a script's objects are where its lines are done in order on one thread. They stand in one list, each with its object, newest first, and
 -- are cut into blocks, one for each line; lines stand newest first too.
-use Rattle.std.specs.Prelude.{◌≡◌, ℕ, ◌+◌, ◌-◌, not, Bool, true, false, List, [], ◌∷◌, ◌++◌, map, sum, slice_set, slice_index}
+use Rattle.std.specs.Prelude.{◌≡◌, ℕ, ◌+◌, ◌-◌, Bool, true, false, List, [], ◌∷◌, ◌++◌, map, sum, slice_set, slice_index}
 use Rattle.up_model.specs.declared.entry.Call.{Call}
 use Rattle.up_model.specs.declared.entry.Call.TheVariants as calls
 use Rattle.up_evictor.specs.Levels.{level_of, age_limits}
