@@ -224,7 +224,7 @@ did_evict s number who object limit most before now one b tail =
     let action = evict_line object limit most in
     let ends : EndsBy s (moment_in s before) who (begun_of who action before) (entries before) =
     (λ answer new c. ap (λ h. (out_after s who (Hears h new ∷ begun_of who action before)).said) c.carries.told
-        ∙ evict_ends (out_after s who (events_of who before)).acting object limit most c.carries.entry.reply (evict_settles who object limit most answer new c.fair c.carries)) in
+    ∙ evict_ends (out_after s who (events_of who before)).acting object limit most c.carries.entry.reply (evict_settles who object limit most answer new c.fair c.carries)) in
     let o = one_answer s (line_of number who action) before now one b refl ends in
     let does = o.carried.carries in
     did_evicts s (moment_in s before) who action (wishes.Act object (calls.Evict limit most)) (begun_of who action before) before now o

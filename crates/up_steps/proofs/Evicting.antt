@@ -24,7 +24,7 @@ use Rattle.up_worker.specs.declared.wish.Heard.{Heard}
 use Rattle.up_worker.specs.declared.wish.Heard.TheVariants as heard
 use Rattle.up_worker.specs.declared.wish.Wish.{Wish}
 use Rattle.up_worker.specs.declared.wish.Wish.TheVariants as wishes
-use Rattle.up_steps.proofs.DevSaying.{asks_again}
+use Rattle.up_worker.proofs.Wished.{asks_again}
 use Rattle.up_steps.specs.Asked.{may_park, without_evicts, AreNext, IsDone}
 use Rattle.up_steps.specs.Steps.{Setting, Moment, moment_after, judge_at, AllBy, AllAt, Stops, AllMade}
 use Rattle.up_steps.specs.Told.{own, last_parks, kind_at, objects_at}

@@ -141,14 +141,16 @@ waits_by : (evicts : Bool) (s : Setting) (line : Line) (earlier : List Line) (ev
 waits_by true s line earlier events t kind unless may held st = absurd (let none = ap is_park st.ended in cc)
 waits_by false s line earlier events t kind unless may held st =
     let plain = plain_line (kind_at s.actors line.actor) line.action may kind in
-    let given = given_mine line earlier unless in
-    (plain, record {
-      later = OneLine line.action ∷ st.later;
-      given = given ∙ ap (λ ds. OneLine line.action ∷ ds) st.given;
-      all = λ free. absurd cc;
-      plain = subst AllPlain (sym given) (plain, st.plain);
-      rested = st.rested;
-    })
+    let given = given_mine line earlier unless in (
+      plain,
+      record {
+        later = OneLine line.action ∷ st.later;
+        given = given ∙ ap (λ ds. OneLine line.action ∷ ds) st.given;
+        all = λ free. absurd cc;
+        plain = subst AllPlain (sym given) (plain, st.plain);
+        rested = st.rested;
+      },
+    )
 
 lined_waits : (s : Setting) (line : Line) (earlier : List Line) (before : List Happening) → is_go line.action ≡ false → is_parked s line.actor before ≡ true
     → may_do (kind_at s.actors line.actor) line.action ≡ true → StandsAt s earlier before line.actor → Lined s (line ∷ earlier) line before before
@@ -428,9 +430,10 @@ lined_wakes s line earlier before now one w is held kind st =
         by = e.plainly.by;
         epoch = e.plainly.epoch;
         stops = e.plainly.going.stops;
-        block = block_at true true s m (line ∷ earlier) line (entries before) e.plainly.made is (rested_parked s who (events_of who before) (own who (entries before)) st.rested ∙ held)
-            (some_made s (line ∷ earlier) who before now one w held waited e.plainly.made e.plainly.is,
-            does_at false s m (line ∷ earlier) who line.action (entries before) e.plainly.made kind (goes_far s (line ∷ earlier) who before now e stands));
+        block = block_at true true s m (line ∷ earlier) line (entries before) e.plainly.made is (rested_parked s who (events_of who before) (own who (entries before)) st.rested ∙ held) (
+          some_made s (line ∷ earlier) who before now one w held waited e.plainly.made e.plainly.is,
+          does_at false s m (line ∷ earlier) who line.action (entries before) e.plainly.made kind (goes_far s (line ∷ earlier) who before now e stands),
+        );
       };
       moment = e.moment ∙ sym (go_moment s m who line.action (entries now) is);
       others = λ other differs. ap (λ x. events_of other x) w.is ∙ (others_stay s who other w.more (happens who (Hears heard.Done []) ∷ before) w.goes differs

@@ -1,7 +1,6 @@
 -- The block of an actor that is no evictor: what its entries keep, event by event.
 use Rattle.std.proofs.Common.{◌≡◌, ℕ, ◌++◌, true, false, List, [], ◌∷◌, refl, sym, ap, ◌∙◌, subst, append_assoc}
 use Rattle.std.specs.Prelude.{sum}
-
 use Rattle.up_script.specs.Fit.{may_do}
 use Rattle.up_script.specs.Objects.{is_evictor}
 use Rattle.up_script.specs.declared.script.Action.{Action}
