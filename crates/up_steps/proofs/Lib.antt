@@ -1,0 +1,16 @@
+mod Aligning
+mod Answering
+mod Blocks
+mod Calling
+mod Chaining
+mod Deciding
+mod Evicting
+mod Going
+mod Legally
+mod Lining
+mod Living
+mod Owning
+mod Plainly
+mod Relieving
+mod Settling
+mod Small
