@@ -1,3 +1,5 @@
+pub mod Enough
 pub mod Groups
+pub mod Needs
 pub mod Requests
 pub mod Running

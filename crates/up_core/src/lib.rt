@@ -2,12 +2,15 @@
 #![tactic(auto)]
 
 mod gathering;
+pub mod laws;
 mod listing;
+mod needing;
 mod owed;
 mod requests;
 mod stepping;
 
 pub use listing::run_list;
+pub use needing::needs;
 pub use owed::Owed;
 pub use requests::{Replies, Request, Requests};
 pub use stepping::step;

@@ -1,0 +1,11 @@
+use Rattle.std.proofs.Common.{sym, ◌∙◌, rules}
+use Rattle.up_model.specs.Reply.{loaned_firm}
+use Rattle.up_reclaim.proofs.Listed.{firm_step}
+use Rattle.up_core.proofs.needing.needs_to_vacate.Goals as goal
+
+pub loop-page-preserved : goal.loop-page-preserved
+loop-page-preserved c = record {
+  counted = rw (c.one_more_where-found.ensures.value, c.is_firm.ensures)
+      (sym (firm_step (loaned_firm c.args.object.now.birth c.args.object.now.journal) c.loop-page.found c.loop-page.page c.size-page-end.result c.loop-page-test.true) ∙ c.loop-page.invariant.counted);
+  few = search rules;
+}
