@@ -5,12 +5,11 @@ use Rattle.up_bank.specs.declared.kind.FrameKind.{FrameKind}
 use Rattle.up_model.specs.Legal.{Life}
 use Rattle.up_model.specs.Reply as replies
 use Rattle.up_model.specs.declared.entry.Call.{Call}
-use Rattle.up_model.specs.declared.entry.Entry.{Entry}
 use Rattle.up_model.specs.declared.entry.Reply.{Reply}
 use Rattle.up_object.specs.Whole.{Whole, life_of, after, held}
 use Rattle.up_hands.specs.Handed.{held_in}
 use Rattle.up_hands.specs.Entering.{enter_at}
-use Rattle.up_hands.specs.Machined.{Machined, Acted}
+use Rattle.up_hands.specs.Machined.{Acted}
 use Rattle.up_hands.specs.Pools.{Pooled}
 use Rattle.up_hands.proofs.Entered.{set_entered, set_held}
 

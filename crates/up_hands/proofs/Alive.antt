@@ -1,5 +1,5 @@
 -- The lives of objects whose entries stand in one list: at their birth, one of them, and whether they are legal.
-use Rattle.std.proofs.Common.{◌≡◌, ◌+◌, ℕ, Some, List, [], ◌∷◌, zero, suc, map, slice_get, refl, ap, sym, ◌∙◌, subst, arith}
+use Rattle.std.proofs.Common.{◌≡◌, ◌+◌, ℕ, Some, List, [], ◌∷◌, zero, suc, map, slice_get, refl, ap, ◌∙◌, subst, arith}
 use Rattle.up_model.specs.Legal.{Life, Legal}
 use Rattle.up_model.specs.declared.entry.Birth.{Birth}
 use Rattle.up_worker.specs.Lives.{Entered}

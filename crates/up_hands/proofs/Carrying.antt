@@ -1,12 +1,10 @@
 -- What was done for a wish, from what was done with objects and frames.
-use Rattle.std.proofs.Common.{◌≡◌, ◌<◌, ◌≤◌, ◌+◌, ◌-◌, ℕ, Bool, true, false, cond, Some, List, [], ◌∷◌, ◌++◌, length, sum, min, nat_le, slice_get, slice_set, slice_index, refl, ap, sym, ◌∙◌, subst, arith}
+use Rattle.std.proofs.Common.{◌≡◌, ◌<◌, ◌≤◌, ◌-◌, ℕ, true, false, cond, List, [], ◌∷◌, ◌++◌, length, sum, nat_le, refl, ap, sym, ◌∙◌, subst, arith}
 use Rattle.std.proofs.lemmas.Bool.Decides.{nat_tests}
 use Rattle.up_bank.specs.declared.kind.FrameKind.TheVariants.{Ordinary, Loaned}
-use Rattle.up_clock.specs.Known.{last_age}
 use Rattle.up_model.specs.Legal.{Life}
 use Rattle.up_model.specs.Reply as replies
 use Rattle.up_model.specs.declared.entry.Birth.{Birth}
-use Rattle.up_model.specs.declared.entry.Brought.{Brought}
 use Rattle.up_model.specs.declared.entry.Brought.TheVariants.{Frames, Scanned}
 use Rattle.up_model.specs.declared.entry.Call.{Call}
 use Rattle.up_model.specs.declared.entry.Call.TheVariants as calls
@@ -18,15 +16,15 @@ use Rattle.up_evictor.specs.Relief.{Relieves, turns}
 use Rattle.up_evictor.specs.declared.levels.Level.{Level}
 use Rattle.up_evictor.specs.declared.levels.Levels.{Levels}
 use Rattle.up_evictor.specs.declared.levels.Level.TheVariants.{Empty}
-use Rattle.up_worker.specs.Lives.{Entered, Carries, OwnEvicts, is_waiting}
-use Rattle.up_worker.specs.Thread.{GathersExactly, DoneExactly, culls_of}
+use Rattle.up_worker.specs.Lives.{Entered, Carries, is_waiting}
+use Rattle.up_worker.specs.Thread.{DoneExactly, culls_of}
 use Rattle.up_worker.specs.Wishes.{settles}
 use Rattle.up_worker.specs.declared.wish.Heard.{Heard}
 use Rattle.up_worker.specs.declared.wish.Heard.TheVariants as heard
 use Rattle.up_worker.specs.declared.wish.Wish.{Wish}
 use Rattle.up_worker.specs.declared.wish.Wish.TheVariants as wishes
 use Rattle.up_hands.specs.Handed.{InHand, empty_hand, Handed, lives_of, held_in, home, loans}
-use Rattle.up_hands.specs.Carried.{hand_after, kept_after, ages_after, AllAt, CarriedOut}
+use Rattle.up_hands.specs.Carried.{hand_after, kept_after, ages_after, CarriedOut}
 use Rattle.up_hands.specs.Entering.{enter, enter_all}
 use Rattle.up_hands.specs.Keeping.{at_home, Taken, Eased}
 use Rattle.up_hands.specs.Machined.{Machined}

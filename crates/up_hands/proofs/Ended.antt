@@ -1,7 +1,6 @@
 -- Objects that are ended one after the other, the last one first.
-use Rattle.std.proofs.Common.{◌≡◌, ◌+◌, ℕ, List, [], ◌∷◌, ◌++◌, length, map, reverse, refl, ap, sym, ◌∙◌, subst}
+use Rattle.std.proofs.Common.{◌≡◌, List, [], ◌∷◌, ◌++◌, map, reverse, refl, ap, sym, ◌∙◌}
 use Rattle.std.proofs.lemmas.List.{reverse-append}
-use Rattle.up_model.specs.Legal.{Life}
 use Rattle.up_model.specs.declared.entry.Entry.{Entry}
 use Rattle.up_object.specs.Whole.{Whole, life_of}
 use Rattle.up_hands.specs.Handed.{ends_of}

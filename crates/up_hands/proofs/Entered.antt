@@ -1,6 +1,5 @@
 -- Entries added one by one are those of one list; what a call changes of the objects.
-use Rattle.std.proofs.Common.{◌≡◌, ◌<◌, ◌≤◌, ◌+◌, ◌*◌, ◌==◌, ℕ, Bool, true, false, cond, Some, List, [], ◌∷◌, ◌++◌, length, zero, suc, map, slice_get, slice_set, refl, ap, sym, ◌∙◌, subst, arith}
-use Rattle.std.specs.List.{sum_by}
+use Rattle.std.proofs.Common.{◌≡◌, ◌<◌, ◌+◌, ◌*◌, ◌==◌, ℕ, Bool, true, false, Some, List, [], ◌∷◌, ◌++◌, length, zero, suc, map, slice_get, slice_set, refl, ap, sym, ◌∙◌, subst, arith}
 use Rattle.std.proofs.lemmas.Bool.Decides.{nat_tests}
 use Rattle.std.proofs.lemmas.List.Sums.{sum_by-cons}
 use Rattle.up_bank.specs.declared.kind.FrameKind.{FrameKind}
@@ -13,7 +12,6 @@ use Rattle.up_model.specs.declared.entry.Entry.{Entry}
 use Rattle.up_object.specs.Parts.{BankPair}
 use Rattle.up_object.specs.Whole.{Whole, life_of, is_framed_by, held}
 use Rattle.up_worker.specs.Lives.{Entered}
-use Rattle.up_worker.specs.Thread.{of_object}
 use Rattle.up_hands.specs.Handed.{lives_from, lives_of, held_in, births_in, new_life, AllLegal}
 use Rattle.up_hands.specs.Entering.{enter_at, enter, enter_all}
 use Rattle.up_hands.specs.Machined.{AllOf}

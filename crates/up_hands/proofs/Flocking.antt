@@ -1,12 +1,9 @@
 -- How far a relief has come.
-use Rattle.std.proofs.Common.{◌≡◌, ◌+◌, ℕ, List, [], ◌∷◌, ◌++◌, length, refl, ap, sym, ◌∙◌, subst, arith}
+use Rattle.std.proofs.Common.{◌≡◌, ℕ, List, [], ◌∷◌, length, refl, ap, sym, ◌∙◌, subst}
 use Rattle.up_num.specs.declared.pages.PageNo.{PageNo}
 use Rattle.up_bank.specs.declared.kind.FrameKind.{FrameKind}
-use Rattle.up_model.specs.Legal.{Life}
-use Rattle.up_model.specs.declared.entry.Birth.{Birth}
 use Rattle.up_model.specs.declared.entry.Call.TheVariants.{Evict}
 use Rattle.up_model.specs.declared.entry.Reply.TheVariants.{Pages}
-use Rattle.up_object.specs.Parts.{BankPair}
 use Rattle.up_evictor.specs.Relief.{cull_of, Relieves, turns, Relieved as RelievedBy}
 use Rattle.up_evictor.specs.Levels.{age_limits}
 use Rattle.up_evictor.specs.declared.herd.Cull.{Cull}
@@ -14,10 +11,8 @@ use Rattle.up_evictor.specs.declared.levels.Level.{Level}
 use Rattle.up_evictor.specs.declared.passes.Relief.{Relief}
 use Rattle.up_worker.specs.Lives.{Entered}
 use Rattle.up_worker.specs.Thread.{culls_of}
-use Rattle.up_hands.specs.Handed.{births_in}
-use Rattle.up_hands.specs.Entering.{enter, enter_all}
-use Rattle.up_hands.specs.Pools.{banks_of}
-use Rattle.up_hands.specs.Machined.{Machined, owned, entry_by, Acted, Stays, Evicted, ReliefMade, Gone, WentSoFar}
+use Rattle.up_hands.specs.Entering.{enter}
+use Rattle.up_hands.specs.Machined.{Machined, owned, entry_by, Acted, Stays, ReliefMade, WentSoFar}
 
 pub stays_same : (m : Machined) → Stays m m
 stays_same m = record { ages = refl; banks = refl; births = refl }

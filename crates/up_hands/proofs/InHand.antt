@@ -1,12 +1,11 @@
 -- What is in hand fits the call for which it was brought.
-use Rattle.std.proofs.Common.{◌≡◌, ◌==◌, ℕ, Bool, true, false, cond, Option, Some, None, MatchOption, List, [], ◌∷◌, length, zero, suc, refl, ap, sym, ◌∙◌, subst, arith}
+use Rattle.std.proofs.Common.{◌≡◌, ◌==◌, ℕ, Bool, false, cond, Option, Some, None, MatchOption, List, [], ◌∷◌, length, suc, refl, ap, sym, ◌∙◌, subst, arith}
 use Rattle.std.proofs.lemmas.Bool.Decides.{nat_tests}
 use Rattle.up_bank.specs.Standing.{Held as Frame}
 use Rattle.up_model.specs.declared.entry.Brought.{Brought}
 use Rattle.up_model.specs.declared.entry.Brought.TheVariants.{Nothing, Frames, Scanned}
 use Rattle.up_model.specs.declared.entry.Call.{Call}
 use Rattle.up_model.specs.declared.entry.Call.TheVariants as calls
-use Rattle.up_pages.specs.Frames.{Stock}
 use Rattle.up_object.specs.declared.step.FramesIn.{FramesIn}
 use Rattle.up_object.specs.declared.step.FramesIn.TheVariants.{NoneYet, Given, Scanned as ScannedIn}
 use Rattle.up_object.specs.Parts.{BankPair, bank_of}

@@ -1,5 +1,5 @@
 -- Lists of frames that actors keep: one of them changes.
-use Rattle.std.proofs.Common.{◌≡◌, ◌<◌, ◌+◌, ℕ, Some, List, [], ◌∷◌, ◌++◌, length, zero, suc, map, sum, replicate, slice_get, slice_set, slice_index, get_or, refl, ap, sym, ◌∙◌, subst, arith}
+use Rattle.std.proofs.Common.{◌≡◌, ◌<◌, ◌+◌, ℕ, Some, List, [], ◌∷◌, ◌++◌, length, zero, suc, sum, replicate, slice_get, slice_set, slice_index, get_or, refl, ap, sym, ◌∙◌, subst, arith}
 use Rattle.up_bank.specs.Standing.{BankId, Held as Frame}
 use Rattle.up_pages.specs.Frames.{Stock}
 use Rattle.up_object.specs.Change.{AllAre}

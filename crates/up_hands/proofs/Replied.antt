@@ -1,13 +1,11 @@
 -- Only a retry is answered that it still waits; a resize is settled at once.
-use Rattle.std.proofs.Common.{◌≡◌, ℕ, ◌&&◌, not, ◌==◌, nat_lt, Bool, true, false, cond, Option, Some, None, List, length, refl, rules}
+use Rattle.std.proofs.Common.{◌≡◌, ℕ, ◌==◌, nat_lt, Bool, true, false, cond, Option, Some, None, List, length, refl, rules}
 use Rattle.up_num.specs.declared.answers.Packet.{Packet as PacketValue}
 use Rattle.up_num.specs.declared.answers.Refusal.{Refusal}
 use Rattle.up_num.specs.declared.pages.PageNo.{PageNo}
-use Rattle.up_model.specs.Attempts.{Access, page_of}
-use Rattle.up_model.specs.Value.{there}
-use Rattle.up_model.specs.States.{dirty}
+use Rattle.up_model.specs.Attempts.{Access}
 use Rattle.up_model.specs.Roles.{detached}
-use Rattle.up_model.specs.Reply.{refuse_where, refuse_at, with_frames, is_scan, frames_in, must_wait, touch_reply, access_reply, packet_reply, resize_reply, reply}
+use Rattle.up_model.specs.Reply.{refuse_where, refuse_at, with_frames, is_scan, frames_in, touch_reply, access_reply, packet_reply, resize_reply, reply}
 use Rattle.up_model.specs.declared.entry.Birth.{Birth}
 use Rattle.up_model.specs.declared.entry.Brought.{Brought}
 use Rattle.up_model.specs.declared.entry.Entry.{Entry}

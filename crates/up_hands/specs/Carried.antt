@@ -5,8 +5,7 @@ use Rattle.up_model.specs.Legal.{Life}
 use Rattle.up_model.specs.Reply.{proper}
 use Rattle.up_model.specs.declared.entry.Birth.{Birth}
 use Rattle.up_model.specs.declared.entry.Brought.{Brought}
-use Rattle.up_model.specs.declared.entry.Brought.TheVariants.{Nothing, Frames, Scanned}
-use Rattle.up_model.specs.declared.entry.Call.{Call}
+use Rattle.up_model.specs.declared.entry.Brought.TheVariants.{Nothing}
 use Rattle.up_core.specs.Requests.{brought_in}
 use Rattle.up_worker.specs.Calls.{borrows}
 use Rattle.up_worker.specs.Lives.{Entered, Carries}

@@ -1,5 +1,5 @@
 -- What contracts see of hands: objects, the frames of two banks, a clock, and what actors keep.
-use Rattle.std.specs.Prelude.{◌≡◌, ℕ, ◌+◌, ◌-◌, ◌&&◌, Bool, true, false, Some, List, [], ◌∷◌, map, reverse, slice_get, nat_le}
+use Rattle.std.specs.Prelude.{ℕ, ◌+◌, ◌-◌, ◌&&◌, Bool, false, List, [], ◌∷◌, map, reverse, nat_le}
 use Rattle.std.specs.List.{sum_by}
 use Rattle.up_bank.specs.declared.kind.FrameKind.{FrameKind}
 use Rattle.up_bank.specs.declared.kind.FrameKind.TheVariants.{Ordinary, Loaned}

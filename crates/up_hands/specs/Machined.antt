@@ -4,7 +4,6 @@ use Rattle.up_bank.specs.declared.kind.FrameKind.{FrameKind}
 use Rattle.up_model.specs.Legal.{Life}
 use Rattle.up_model.specs.Reply as replies
 use Rattle.up_model.specs.declared.entry.Call.{Call}
-use Rattle.up_model.specs.declared.entry.Entry.{Entry}
 use Rattle.up_model.specs.declared.entry.Reply.{Reply}
 use Rattle.up_object.specs.Parts.{BankPair}
 use Rattle.up_object.specs.Whole.{Whole}

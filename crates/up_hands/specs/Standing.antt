@@ -1,9 +1,7 @@
 -- What hands keep.
-use Rattle.std.specs.Prelude.{◌≡◌, ℕ, ◌+◌, Bool, true, false, List, [], ◌∷◌, length, map, sum}
-use Rattle.up_bank.specs.Standing.{BankId}
-use Rattle.up_bank.specs.declared.kind.FrameKind.{FrameKind}
+use Rattle.std.specs.Prelude.{◌≡◌, ◌+◌, sum}
 use Rattle.up_bank.specs.declared.kind.FrameKind.TheVariants.{Ordinary, Loaned}
-use Rattle.up_pages.specs.Frames.{Stock, count_kind}
+use Rattle.up_pages.specs.Frames.{count_kind}
 use Rattle.up_object.specs.Parts.{bank_of}
 use Rattle.up_object.specs.Change.{AllAre}
 use Rattle.up_object.specs.Steps.{frames_of}

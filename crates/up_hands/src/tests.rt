@@ -5,7 +5,7 @@ use crate::Hands;
 use std::alloc::Global;
 use std::test::Fail;
 use up_evictor::Levels;
-use up_model::{Birth, Brought, Call, Reply};
+use up_model::{Birth, Brought, Call, Entries, Reply};
 use up_num::{Bytes, Memory, PageNo, PageRange, Refusal};
 use up_worker::{Heard, Wish};
 
@@ -134,6 +134,19 @@ fn is_borrowed(heard: &Heard) -> bool {
     matches!(heard, Heard::Replied(Reply::Borrowed(true)))
 }
 
+fn count_of(ended: &[Entries], object: usize) -> usize {
+    match ended.get(object) {
+        Some(entries) => entries.len(),
+        None => 0,
+    }
+}
+
+fn epoch_of(ended: &[Entries], object: usize, place: usize) -> Option<u64> {
+    let entries = ended.get(object)?;
+    let entry = entries.as_slice().get(place)?;
+    Some(entry.epoch)
+}
+
 #[test]
 fn wishes_are_carried_out_on_two_objects(rt: HostRuntime) -> Result<(), Fail> {
     let mut hands = some_hands(rt.alloc())?;
@@ -149,9 +162,9 @@ fn wishes_are_carried_out_on_two_objects(rt: HostRuntime) -> Result<(), Fail> {
         )
     );
     assert!(rt; is_borrowed(&played.given));
-    let counts = [ended[0].len(), ended[1].len()];
-    assert!(rt; counts == [3, 5]);
-    let epochs = [ended[1].at(1).epoch, ended[1].at(2).epoch];
-    assert!(rt; epochs == [0, 1]);
+    let ended = ended.as_slice();
+    assert_eq!(rt; (count_of(ended, 0), count_of(ended, 1)), (3, 5));
+    assert!(rt; epoch_of(ended, 1, 1) == Some(0));
+    assert!(rt; epoch_of(ended, 1, 2) == Some(1));
     Ok(())
 }

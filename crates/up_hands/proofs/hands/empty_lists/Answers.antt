@@ -1,4 +1,4 @@
-use Rattle.std.proofs.Common.{◌∙◌, sym, ap, subst, arith}
+use Rattle.std.proofs.Common.{arith}
 use Rattle.up_hands.proofs.Kept.{kept_pushed, counts_push}
 use Rattle.up_hands.proofs.hands.empty_lists.Goals as goal
 

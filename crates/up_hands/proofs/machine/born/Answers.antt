@@ -1,6 +1,6 @@
-use Rattle.std.proofs.Common.{ap, sym, ◌∙◌, arith}
+use Rattle.std.proofs.Common.{ap, ◌∙◌, arith}
 use Rattle.up_object.specs.Whole.{Whole, life_of}
-use Rattle.up_hands.specs.Pools.{banks_of, Pooled}
+use Rattle.up_hands.specs.Pools.{banks_of}
 use Rattle.up_hands.proofs.Born.{born_one}
 use Rattle.up_hands.proofs.Entered.{banks_pushed}
 use Rattle.up_hands.proofs.machine.born.Goals as goal

@@ -1,4 +1,4 @@
-use Rattle.std.proofs.Common.{◌≡◌, ap, sym, subst, ◌∙◌, arith}
+use Rattle.std.proofs.Common.{ap, sym, subst, ◌∙◌, arith}
 use Rattle.up_object.specs.Parts.{BankPair}
 use Rattle.up_object.specs.Change.{AllOwn}
 use Rattle.up_hands.specs.Pools.{banks_of}

@@ -1,9 +1,6 @@
-use Rattle.std.proofs.Common.{◌≡◌, ap, sym, subst, ◌∙◌, refl, false}
-use Rattle.up_model.specs.Legal.{Life}
-use Rattle.up_model.specs.declared.entry.Birth.{Birth}
+use Rattle.std.proofs.Common.{◌≡◌, ap, subst, ◌∙◌, refl, false}
 use Rattle.up_object.specs.declared.step.FramesIn.{FramesIn}
 use Rattle.up_object.specs.Steps.{brought_of}
-use Rattle.up_worker.specs.Lives.{Entered}
 use Rattle.up_worker.specs.declared.wish.Heard.TheVariants as heard
 use Rattle.up_worker.specs.declared.wish.Wish.TheVariants as wishes
 use Rattle.up_hands.specs.Handed.{InHand, Handed, empty_hand}

@@ -1,5 +1,5 @@
-use Rattle.std.proofs.Common.{◌≡◌, ◌+◌, ℕ, Bool, List, cond, nat_le, sum, refl, ap, sym, subst, ◌∙◌, arith}
-use Rattle.up_bank.specs.Standing.{BankId, Held as Frame}
+use Rattle.std.proofs.Common.{◌≡◌, ◌+◌, ℕ, Bool, cond, nat_le, sum, refl, ap, sym, subst, ◌∙◌, arith}
+use Rattle.up_bank.specs.Standing.{BankId}
 use Rattle.up_bank.specs.declared.kind.FrameKind.{FrameKind}
 use Rattle.up_bank.specs.declared.kind.FrameKind.TheVariants.{Ordinary, Loaned}
 use Rattle.up_model.specs.declared.entry.Brought.{Brought}
@@ -11,9 +11,9 @@ use Rattle.up_object.specs.Change.{AllAre}
 use Rattle.up_object.specs.Steps.{brought_of, frames_of}
 use Rattle.up_worker.specs.declared.wish.Heard.TheVariants as heard
 use Rattle.up_hands.specs.Handed.{InHand, Handed, held_in}
-use Rattle.up_hands.specs.Keeping.{AllKept, Taken, at_home, counts_of, kind_lent}
+use Rattle.up_hands.specs.Keeping.{AllKept, Taken, counts_of, kind_lent}
 use Rattle.up_hands.specs.Machined.{Machined, owned}
-use Rattle.up_hands.specs.Pools.{banks_of, stored}
+use Rattle.up_hands.specs.Pools.{banks_of}
 use Rattle.up_hands.proofs.Carrying.{handed}
 use Rattle.up_hands.proofs.Homes.{claimed, same_banks, kind_of_loan, at_home_is}
 use Rattle.up_hands.proofs.InHand.{no_frames_in_hand}

@@ -1,13 +1,12 @@
-use Rattle.std.proofs.Common.{◌≡◌, ◌+◌, ◌<◌, ℕ, length, length-set, map, min, Some, slice_get, slice_set, IfOk, ap, sym, subst, ◌∙◌, arith}
+use Rattle.std.proofs.Common.{◌≡◌, ◌+◌, length-set, map, min, slice_get, slice_set, IfOk, ap, sym, subst, ◌∙◌}
 use Rattle.up_clock.specs.Known.{Known, last_age}
 use Rattle.up_pages.specs.Frames.{count_kind}
 use Rattle.up_core.specs.Requests.{kind_taken}
 use Rattle.up_model.specs.Reply as replies
-use Rattle.up_model.specs.declared.entry.Reply.{Reply}
 use Rattle.up_object.specs.Parts.{BankPair, bank_of}
 use Rattle.up_object.specs.Change.{AllAre}
 use Rattle.up_object.specs.Steps.{frames_of}
-use Rattle.up_object.specs.Whole.{Whole, life_of, after}
+use Rattle.up_object.specs.Whole.{life_of, after}
 use Rattle.up_hands.specs.Machined.{Machined, owned, AllOf, Acted, Stays}
 use Rattle.up_hands.specs.Pools.{banks_of, stored}
 use Rattle.up_hands.proofs.Acting.{found, life_at, acted, acted_frames, of_both}

@@ -1,4 +1,4 @@
-use Rattle.std.proofs.Common.{◌<◌, ◌^◌, ℕ, ap, sym, subst, ◌∙◌}
+use Rattle.std.proofs.Common.{ap, sym, subst, ◌∙◌}
 use Rattle.up_clock.specs.Known.{Known}
 use Rattle.up_object.specs.Parts.{BankPair}
 use Rattle.up_hands.specs.Handed.{AllLegal}
