@@ -96,14 +96,20 @@ impl Desk {
         ensures same { self.new ≡ self.old }
         ensures bank { result.bank ≡ bank_of self.old kind }
     {
-        let claimed = match kind {
-            FrameKind::Ordinary => self.ordinary.claim(&mut self.first),
-            FrameKind::Loaned => self.loaned.claim(&mut self.second),
-        };
-        claimed.ok().expect(rt, "a frame at home")
+        match kind {
+            FrameKind::Ordinary => {
+                let claimed = self.ordinary.claim(&mut self.first);
+                claimed.ok().expect(rt, "a frame at home")
+            }
+            FrameKind::Loaned => {
+                let claimed = self.loaned.claim(&mut self.second);
+                claimed.ok().expect(rt, "a frame at home")
+            }
+        }
     }
 
     // Frames that are handed to a call.
+    #[tactic(auto, using(crate::proofs::Kept::are_pushed))]
     fn some_frames(&mut self, rt: &impl Abort, alloc: Global, kind: FrameKind, count: u32) -> Frames
         ensures same { self.new ≡ self.old }
         ensures own { AllAre (bank_of self.old kind) result.items }
@@ -118,7 +124,24 @@ impl Desk {
         frames
     }
 
-    // What a call says that it brought.
+    // Frames, or a scan, as a call says that it brought them.
+    fn hand(
+        &mut self,
+        rt: &impl Abort,
+        alloc: Global,
+        kind: FrameKind,
+        brought: Brought,
+    ) -> FramesIn
+        ensures same { self.new ≡ self.old }
+        ensures own { AllAre (bank_of self.old kind) (frames_of result) }
+    {
+        match brought {
+            Brought::Nothing => FramesIn::NoneYet,
+            Brought::Frames(count) => FramesIn::Given(self.some_frames(rt, alloc, kind, count)),
+            Brought::Scanned => FramesIn::Scanned(a_scan(rt, alloc)),
+        }
+    }
+
     fn bring(
         &mut self,
         rt: &impl Abort,
@@ -130,11 +153,7 @@ impl Desk {
         ensures own { AllAre (bank_of self.old kind) (frames_of result) }
         ensures brought { brought ≡ brought_of result }
     {
-        let made = match brought {
-            Brought::Nothing => FramesIn::NoneYet,
-            Brought::Frames(count) => FramesIn::Given(self.some_frames(rt, alloc, kind, count)),
-            Brought::Scanned => FramesIn::Scanned(a_scan(rt, alloc)),
-        };
+        let made = self.hand(rt, alloc, kind, brought);
         assert!(rt; made.brought() == brought);
         made
     }

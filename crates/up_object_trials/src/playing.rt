@@ -1,6 +1,7 @@
 //! A journal's text done anew: its calls as lists of requests, each reply compared with the one in the text.
-ghost use Rattle.std.specs.Prelude.{◌≡◌, ◌<◌, ◌≤◌, List, IsTrue};
+ghost use Rattle.std.specs.Prelude.{◌≡◌, ◌<◌, ◌≤◌, ◌&&◌, List, IsTrue};
 ghost use Rattle.up_bank.specs.Standing.{most_frames};
+ghost use Rattle.up_asks.specs.Asking.{holder_in};
 ghost use Rattle.up_model.specs.Reply as replies;
 ghost use Rattle.up_model.specs.declared.entry.Call.TheVariants.{Retry as RetryCall};
 ghost use Rattle.up_model.specs.declared.entry.Entry.{Entry as EntryValue};
@@ -9,6 +10,7 @@ ghost use Rattle.up_core.specs.Requests.{AllKeep, AllBackOwn, after_all};
 use crate::desk::Desk;
 use std::alloc::Global;
 use std::process::Abort;
+use up_asks::Asks;
 use up_core::{Owed, Replies, Request, Requests, run_list};
 use up_journal::is_proper;
 use up_model::{Brought, Call, Entry, Reply};
@@ -73,6 +75,7 @@ fn play_list(
 }
 
 /// Compares replies, and gives the frames back that came with them.
+#[tactic(auto, using(crate::proofs::Kept::back_own, crate::proofs::Kept::rest_own))]
 fn compare(rt: &impl Abort, desk: &mut Desk, replies: Replies, wanted: Vec<Reply>)
     requires { AllBackOwn desk.old replies }
     ensures { desk.new ≡ desk.old }
@@ -122,6 +125,7 @@ fn ends_in_retry(rest: &Vec<Entry>) -> bool {
 }
 
 /// Appends an entry's call to a list, and its reply to those that are wanted.
+#[tactic(auto, using(crate::proofs::Kept::keeps_pushed))]
 fn add(
     rt: &impl Abort,
     desk: &mut Desk,
@@ -177,16 +181,26 @@ pub(crate) fn may_be_made(object: &Object, who: u32, call: &Call) -> bool
     }
 }
 
-/// Whether an actor holds a ticket.
+/// Whether an actor may retry a ticket.
+#[tactic(auto, using(crate::proofs::Kept::may_retry))]
 fn may_retry(object: &Object, who: u32, ticket: u64, brought: Brought) -> bool
     ensures { IsTrue result → IsTrue (replies.proper object.now.journal who (RetryCall ticket brought)) }
 {
-    if matches!(brought, Brought::Frames(0)) {
-        return false;
-    }
-    match object.asks().holder(ticket) {
-        Some(holder) => holder == who,
-        None => false,
+    holds(object.asks(), who, ticket, brought)
+}
+
+fn holds(asks: &Asks, who: u32, ticket: u64, brought: Brought) -> bool
+    ensures { result ≡ (replies.is_by (holder_in asks.now ticket) who && replies.counts_frames brought) }
+{
+    asks.holder(ticket) == Some(who) && counts(brought)
+}
+
+fn counts(brought: Brought) -> bool
+    ensures { result ≡ replies.counts_frames brought }
+{
+    match brought {
+        Brought::Frames(count) => count > 0,
+        Brought::Nothing | Brought::Scanned => true,
     }
 }
 

@@ -1,5 +1,9 @@
+use crate::desk::Desk;
 use crate::playing::play;
 use std::test::Fail;
+use up_core::step;
+use up_model::{Birth, Call, Reply};
+use up_object::{FramesIn, Stepped};
 
 // A list of requests in which an access waits, and is answered after a supply; both roles are left, and the third leave is refused.
 const FIRST_READ: &str = "pagerd-journal 1
@@ -118,6 +122,63 @@ end 18
 done
 ";
 
+// A page that awaits its end isn't evicted.
+const AWAITING: &str = "pagerd-journal 1
+journal a 1 - free 2 1 -
+0 2 0 supply 0 1 61*4096 f1 -> took 1 woke -
+1 0 0 write 0 41*1 0 - -> done
+2 2 0 begin 0 1 any -> done
+3 3 0 evict 0 8 -> pages -
+4 2 0 end 0 1 -> woke -
+5 3 0 evict 0 8 -> pages 0
+end 6
+done
+";
+
+// What a pager tells changes nothing, and a reset forgets that the object was changed.
+const TOLD: &str = "pagerd-journal 1
+journal a 1 - free 1 1 image
+0 0 0 stats reset -> modified 0
+1 1 0 fetched 0 ok -> noted
+2 1 0 supply 0 1 61*4096 f1 -> took 1 woke -
+3 0 0 write 0 41*1 0 - -> done
+4 1 0 copied 0 1 -> noted
+5 1 0 stored 0 failed -> noted
+6 1 0 flushed ok -> noted
+7 1 0 busy 1 0 1 -> noted
+8 0 0 stats keep -> modified 1
+9 0 0 stats reset -> modified 1
+10 0 0 stats keep -> modified 0
+end 11
+done
+";
+
+#[test]
+fn one_step_answers(rt: HostRuntime) -> Result<(), Fail> {
+    let alloc = rt.alloc();
+    let birth = Birth {
+        pages: 1,
+        limit: None,
+        trap: false,
+        users: 1,
+        pagers: 1,
+        image: false,
+    };
+    let mut desk = Desk::new(alloc, 1, 1)?;
+    let mut object = desk.birth(alloc, birth)?;
+    match step(&mut object, alloc, 0, 0, Call::Packet, FramesIn::NoneYet) {
+        Ok(Stepped { reply, back }) => {
+            desk.give_all(back);
+            assert_eq!(&rt; reply, Reply::Empty);
+        }
+        Err(_) => panic!(&rt; "memory for a step"),
+    }
+    let (entries, frames) = object.end();
+    desk.give_all(frames);
+    assert_eq!(rt; entries.len(), 1);
+    Ok(())
+}
+
 #[test]
 fn a_list_of_requests_answers_in_order(rt: HostRuntime) -> Result<(), Fail> {
     play(&rt, rt.alloc(), 1, 1, FIRST_READ);
@@ -130,6 +191,8 @@ fn pages_are_written_back(rt: HostRuntime) -> Result<(), Fail> {
     play(&rt, rt.alloc(), 1, 1, GROWN);
     play(&rt, rt.alloc(), 2, 1, DETACHED);
     play(&rt, rt.alloc(), 1, 1, EMPTIED);
+    play(&rt, rt.alloc(), 1, 1, AWAITING);
+    play(&rt, rt.alloc(), 1, 1, TOLD);
     Ok(())
 }
 
