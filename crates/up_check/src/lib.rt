@@ -2,8 +2,13 @@
 //! hasn't, which is the first.
 #![tactic(auto)]
 
+mod bringing;
 mod judging;
+mod looking;
+mod pool;
+mod replay;
+mod sizes;
 mod verdict;
 
-pub use judging::check;
+pub use judging::{check, check_slow};
 pub use verdict::Verdict;

@@ -7,6 +7,8 @@ mod judging;
 #[cfg(test)]
 mod outsides;
 #[cfg(test)]
+mod replays;
+#[cfg(test)]
 mod scripts;
 #[cfg(test)]
 mod words;

@@ -1,7 +1,7 @@
 use Rattle.std.proofs.Common.{rules, sym}
 use mathlib.Core.Bool.{true≢false}
 use Rattle.up_check.proofs.Illegal.{no_first, all_legal}
-use Rattle.up_check.proofs.judging.check.Goals as goal
+use Rattle.up_check.proofs.judging.check_by.Goals as goal
 
 pub returns-in-Some-clause-exact : goal.returns-in-Some-clause-exact
 returns-in-Some-clause-exact c = (λ told. absurd (true≢false (sym told)), λ legal. absurd (no_first c.args.journals.now c.loop-number.number c.in-Some.field-0.entry c.in-Some.field-0.expected (search rules) legal))

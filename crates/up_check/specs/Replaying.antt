@@ -1,0 +1,61 @@
+-- What a call brings when it is made again, and what replay finds of an entry.
+use Rattle.std.specs.Prelude.{ℕ, Bool, true, false, cond, Option, Some, None, List, ◌∷◌, nat_le}
+use Rattle.up_model.specs.declared.entry.Birth.{Birth}
+use Rattle.up_model.specs.declared.entry.Brought.{Brought}
+use Rattle.up_model.specs.declared.entry.Brought.TheVariants.{Nothing, Frames, Scanned}
+use Rattle.up_model.specs.declared.entry.Call.{Call}
+use Rattle.up_model.specs.declared.entry.Call.TheVariants.{Read, Write, Retry, Supply, Dirty, Pin, Evict, Borrow, Vacate, Resize, Zero, Detach, Packet, Leave, Tell}
+use Rattle.up_model.specs.declared.entry.Entry.{Entry}
+use Rattle.up_object.specs.Steps.{brought_count}
+use Rattle.up_core.specs.Groups.{bringing}
+use Rattle.up_core.specs.Enough.{SameButFrames, needed}
+use Rattle.up_check.specs.Judging.{IsJudged}
+use Rattle.up_check.specs.declared.judging.Judged.{Judged}
+use Rattle.up_check.specs.declared.judging.Judged.TheVariants.{Right, Fault}
+
+-- what a call says that it brought: nothing where it takes no frames
+abbrev pub brought_by : Call → Brought
+brought_by (Read piece last brought) = brought
+brought_by (Write off bytes last brought) = brought
+brought_by (Retry ticket brought) = brought
+brought_by (Supply range bytes brought) = brought
+brought_by (Dirty range brought) = brought
+brought_by (Pin range brought) = brought
+brought_by (Borrow page brought) = brought
+brought_by (Vacate brought) = brought
+brought_by _ = Nothing
+
+-- calls that take no frames: those on the whole object, and a zero call
+abbrev pub is_rare : Call → Bool
+is_rare (Evict limit most) = true
+is_rare (Resize pages) = true
+is_rare (Zero range) = true
+is_rare Detach = true
+is_rare Packet = true
+is_rare (Leave role) = true
+is_rare (Tell told) = true
+is_rare _ = false
+
+-- n frames, where there are as many
+abbrev pub at_most : ℕ → Brought → Brought
+at_most n Nothing = Nothing
+at_most n (Frames given) = cond (nat_le n given) (brought_count n) (Frames given)
+at_most n Scanned = Scanned
+
+abbrev pub is_supply : Call → Bool
+is_supply (Supply range bytes brought) = true
+is_supply _ = false
+
+-- what a call is to bring for the same reply: a supply what it brought, any other no more than it needs, where it brought as many
+abbrev pub brought_again : Birth → List Entry → Call → Brought
+brought_again birth h call = cond (is_supply call) (brought_by call) (at_most (needed birth h call) (brought_by call))
+
+-- the call with that
+abbrev pub again : Birth → List Entry → Call → Call
+again birth h call = bringing (brought_again birth h call) call
+
+-- what replay finds of the entry e after h: nothing; or how it stands, and where it is right the object's journal is then that of the entries but for frames
+abbrev pub Replays : Birth → List Entry → Entry → List Entry → Option Judged → Type 0
+Replays birth h e now None = Unit {0}
+Replays birth h e now (Some Right) = IsJudged birth h e Right × SameButFrames now (e ∷ h)
+Replays birth h e now (Some (Fault expected)) = IsJudged birth h e (Fault expected)

@@ -1,0 +1,191 @@
+//! Judges a journal by replay: its calls are made on an object, one after the other, and the replies are compared.
+ghost use Rattle.std.specs.Prelude.{◌≡◌, ◌&&◌, not, List, [], IsTrue, IfOk, IfSome, OnOk, OnErr};
+ghost use Rattle.up_model.specs.Reply as replies;
+ghost use Rattle.up_model.specs.Parked as parking;
+ghost use Rattle.up_model.specs.Tickets as tickets;
+ghost use Rattle.up_model.specs.declared.entry.Entry.{Entry as EntryValue};
+ghost use Rattle.up_object.specs.Parts.{bank_of};
+ghost use Rattle.up_object.specs.Change.{AllAre, AllOwn};
+ghost use Rattle.up_object.specs.Steps.{frames_of};
+ghost use Rattle.up_object.specs.Whole.{after};
+ghost use Rattle.up_core.specs.Enough.{SameButFrames};
+ghost use Rattle.up_core.specs.Requests.{kind_taken, Agrees};
+ghost use Rattle.up_check.specs.Judging.{IsFound, Finds};
+ghost use Rattle.up_check.specs.Replaying.{Replays};
+
+use crate::bringing::{brought_again, brought_by, call_with};
+use crate::judging::{Fault, Judged};
+use crate::pool::Pool;
+use crate::sizes::{is_fair, sizes_for};
+use std::alloc::Global;
+use up_bank::FrameKind;
+use up_core::step;
+use up_journal::is_proper;
+use up_model::{Brought, Call, Entry, Reply};
+use up_num::Memory;
+use up_object::{FramesIn, Object, Stepped};
+use up_text::Named;
+
+/// The first entry at fault in a journal; nothing where no object or no bank is as large as it asks.
+pub(crate) fn replay(alloc: Global, journal: &Named) -> Result<Option<Option<Fault>>, Memory>
+    ensures { IfOk result (λ told. IfSome told (IsFound journal.now)) }
+{
+    if !is_fair(&journal.birth) {
+        return Ok(None);
+    }
+    let Some(sizes) = sizes_for(journal) else {
+        return Ok(None);
+    };
+    let mut pool = Pool::new(alloc, sizes)?;
+    let mut object = pool.birth(alloc, journal.birth)?;
+    let found = replay_all(alloc, &mut object, &mut pool, journal.entries.as_slice());
+    let (_, held) = object.end();
+    pool.bring_home(held);
+    found
+}
+
+/// Makes the calls of entries, the oldest first, on a new object.
+fn replay_all(
+    alloc: Global,
+    object: &mut Object,
+    pool: &mut Pool,
+    entries: &[Entry],
+) -> Result<Option<Option<Fault>>, Memory>
+    requires fresh { object.old.journal ≡ [] }
+    requires banks { object.old.banks ≡ pool.old }
+    ensures told { IfOk result (λ told. IfSome told (Finds object.old.birth entries.now)) }
+    ensures same { (object.new.banks ≡ pool.new) × (pool.new ≡ pool.old) }
+{
+    for place in 0..entries.len() {
+        match replay_one(alloc, object, pool, &entries[place])? {
+            None => return Ok(None),
+            Some(Judged::Right) => {}
+            Some(Judged::Fault(expected)) => {
+                return Ok(Some(Some(Fault {
+                    entry: place as u64,
+                    expected,
+                })));
+            }
+        }
+    }
+    Ok(Some(None))
+}
+
+/// Makes the call of an entry, and compares the reply; nothing where a bank lacks frames.
+#[tactic(auto, using(crate::proofs::Handing::counts_in, crate::proofs::Handing::hands_in, crate::proofs::Retold::improper_told, crate::proofs::Retold::right_told, crate::proofs::Retold::wrong_told))]
+fn replay_one(
+    alloc: Global,
+    object: &mut Object,
+    pool: &mut Pool,
+    entry: &Entry,
+) -> Result<Option<Judged>, Memory>
+    requires banks { object.old.banks ≡ pool.old }
+    ensures told { (h : List EntryValue) → SameButFrames object.old.journal h → IfOk result (Replays object.old.birth h entry.now object.new.journal) }
+    ensures same { (object.new.birth ≡ object.old.birth) × (object.new.banks ≡ pool.new) × (pool.new ≡ pool.old) }
+{
+    if !may_call(object, entry.who, &entry.call) {
+        return Ok(Some(Judged::Fault(None)));
+    }
+    let brought = brought_again(object, &entry.call);
+    let call = call_with(alloc, &entry.call, brought)?;
+    let Some(frames) = pool.hand(alloc, kind_of(&call), brought)? else {
+        return Ok(None);
+    };
+    let reply = make(alloc, object, pool, entry, call, frames)?;
+    if entry.reply.same(&reply) {
+        Ok(Some(Judged::Right))
+    } else {
+        Ok(Some(Judged::Fault(Some(reply))))
+    }
+}
+
+/// Whether the call is proper now.
+#[tactic(auto, using(crate::proofs::Holding::retry_told, crate::proofs::Holding::other_told))]
+fn may_call(object: &Object, who: u32, call: &Call) -> bool
+    ensures { result ≡ replies.proper object.now.journal who call.now }
+{
+    match retried(call) {
+        Some(ticket) => may_retry(holds(object, who, ticket), brought_by(call)),
+        None => is_proper(&[], who, call),
+    }
+}
+
+/// The ticket that a call retries.
+fn retried(call: &Call) -> Option<u64>
+    ensures { result ≡ parking.retried call.now }
+{
+    match call {
+        Call::Retry { ticket, .. } => Some(*ticket),
+        _ => None,
+    }
+}
+
+/// Whether a retry is proper, by whether its actor holds the ticket and by what it brought.
+fn may_retry(holds: bool, brought: Brought) -> bool
+    ensures { result ≡ (holds && replies.counts_frames brought) }
+{
+    holds && counts(brought)
+}
+
+/// Frames that are said to be brought are at least one.
+fn counts(brought: Brought) -> bool
+    ensures { result ≡ replies.counts_frames brought }
+{
+    match brought {
+        Brought::Frames(count) => 0 < count,
+        _ => true,
+    }
+}
+
+/// Whether the ticket was given to this actor, and isn't spent.
+#[tactic(auto, using(crate::proofs::Holding::holds_some, crate::proofs::Holding::holds_none))]
+fn holds(object: &Object, who: u32, ticket: u64) -> bool
+    ensures { result ≡ (replies.is_by (tickets.owner object.now.journal ticket) who && not (tickets.spent object.now.journal ticket)) }
+{
+    let _ = object.size();
+    match object.asks().holder(ticket) {
+        Some(holder) => holder == who,
+        None => false,
+    }
+}
+
+/// Which frames a call takes.
+fn kind_of(call: &Call) -> FrameKind
+    ensures { result ≡ kind_taken call.now }
+{
+    match call {
+        Call::Borrow { .. } => FrameKind::Loaned,
+        _ => FrameKind::Ordinary,
+    }
+}
+
+/// Makes a call for an entry's actor. What comes back goes home.
+fn make(
+    alloc: Global,
+    object: &mut Object,
+    pool: &mut Pool,
+    entry: &Entry,
+    call: Call,
+    frames: FramesIn,
+) -> Result<Reply, Memory>
+    requires banks { object.old.banks ≡ pool.old }
+    requires own { AllAre (bank_of pool.old (kind_taken call)) (frames_of frames) }
+    requires back { AllOwn pool.old (frames_of frames) }
+    requires agrees { Agrees call frames }
+    requires proper { IsTrue (replies.proper object.old.journal entry.now.who call) }
+    ensures reply { IfOk result (λ reply. reply ≡ replies.reply object.old.birth object.old.journal entry.now.who entry.now.epoch call) }
+    ensures object { OnOk result (object.new ≡ after object.old entry.now.who entry.now.epoch call) }
+    ensures err { OnErr result (object.new ≡ object.old) }
+    ensures pool { pool.new ≡ pool.old }
+{
+    match step(object, alloc, entry.who, entry.epoch, call, frames) {
+        Ok(Stepped { reply, back }) => {
+            pool.bring_home(back);
+            Ok(reply)
+        }
+        Err((memory, back)) => {
+            pool.bring_home(back);
+            Err(memory)
+        }
+    }
+}
