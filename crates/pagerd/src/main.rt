@@ -8,10 +8,9 @@ ghost use Rattle.std.specs.Process.{exit_status};
 mod advice;
 mod built;
 mod checking;
-mod homes;
+mod generated;
+mod journals;
 mod keeping;
-mod pool;
-mod steps;
 #[cfg(test)]
 mod tests;
 mod text;

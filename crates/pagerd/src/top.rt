@@ -6,7 +6,8 @@ ghost use Rattle.pagerd.specs.Top.{IsStep, IsCheck, IsSaid, IsAnswer, IsScript, 
 
 use crate::built::find_unbuilt;
 use crate::checking::{Judgement, judge};
-use crate::steps::journals_of;
+use crate::generated::{Seed, read_seed, told_of};
+use crate::journals::journals_of;
 use crate::text::{fault_at, why_word};
 use std::alloc::Global;
 use up_num::Memory;
@@ -110,6 +111,9 @@ fn run<S: Source, K: Sink>(alloc: Global, words: &[String], source: &mut S, sink
     if is_word(words, "check") {
         return run_check(alloc, source, sink);
     }
+    if let Some(asked) = read_seed(words) {
+        return run_gen(alloc, asked, sink);
+    }
     match push_all(sink, b"words\n") {
         Ok(()) => Ended::Words,
         Err(_) => Ended::Sink,
@@ -181,6 +185,16 @@ fn run_check<S: Source, K: Sink>(alloc: Global, source: &mut S, sink: &mut K) ->
             Ok(()) => Ended::Unread,
             Err(_) => Ended::Sink,
         },
+    }
+}
+
+fn run_gen<K: Sink>(alloc: Global, asked: Seed, sink: &mut K) -> Ended {
+    match told_of(alloc, asked) {
+        Ok(text) => match push_all(sink, text.as_slice()) {
+            Ok(()) => Ended::Written,
+            Err(_) => Ended::Sink,
+        },
+        Err(_) => Ended::Memory,
     }
 }
 
