@@ -1,0 +1,3 @@
+mod Calling
+mod Going
+mod Owning

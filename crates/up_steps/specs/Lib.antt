@@ -1,0 +1,5 @@
+pub mod Asked
+pub mod Told
+pub mod Steps
+pub mod World
+pub mod Laws

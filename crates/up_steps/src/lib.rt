@@ -1,0 +1,6 @@
+//! What all entries of a script's objects are where its lines are done in order on one thread, and that doing what actors wish makes them so.
+#![tactic(auto)]
+
+mod laws;
+
+pub use laws::doing_wishes_makes_the_steps;
