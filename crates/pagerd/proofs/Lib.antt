@@ -1,9 +1,5 @@
 pub mod Failing
-pub mod Staging
-pub mod Blocks
-pub mod Making
 pub mod Naming
 pub mod Endings
 pub mod Judging
-pub mod Owned
-pub mod Housing
+pub mod Building

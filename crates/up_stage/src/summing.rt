@@ -1,3 +1,6 @@
+ghost use Rattle.std.specs.Prelude.{◌≡◌, ◌<◌, ◌^◌, ◌&&◌, ◌≤◌};
+ghost use Rattle.up_stage.specs.Summing.{gives_bytes, is_write, is_done, pages_taken, pages_evicted, first_byte, summary_of};
+
 use up_model::{Call, Entry, Reply};
 
 /// What is told of a journal.
@@ -17,7 +20,9 @@ pub struct Summary {
 }
 
 /// Counts what a journal has.
-pub fn sum_up(entries: &[Entry]) -> Summary {
+pub fn sum_up(entries: &[Entry]) -> Summary
+    ensures { result ≡ summary_of entries.now }
+{
     let mut reads: u64 = 0;
     let mut writes: u64 = 0;
     let mut took: u128 = 0;
@@ -40,32 +45,43 @@ pub fn sum_up(entries: &[Entry]) -> Summary {
     }
 }
 
-fn gives_bytes(reply: &Reply) -> bool {
+fn gives_bytes(reply: &Reply) -> bool
+    ensures { result ≡ gives_bytes reply.now }
+{
     matches!(reply, Reply::Bytes(_))
 }
 
-fn is_write_done(call: &Call, reply: &Reply) -> bool {
+fn is_write_done(call: &Call, reply: &Reply) -> bool
+    ensures { result ≡ (is_write call.now && is_done reply.now) }
+{
     match (call, reply) {
         (Call::Write { .. }, Reply::Done) => true,
         _ => false,
     }
 }
 
-fn pages_taken(reply: &Reply) -> u32 {
+fn pages_taken(reply: &Reply) -> u32
+    ensures { result ≡ pages_taken reply.now }
+{
     match reply {
         Reply::Took { pages, .. } => *pages,
         _ => 0,
     }
 }
 
-fn pages_evicted(reply: &Reply) -> u64 {
+fn pages_evicted(reply: &Reply) -> u64
+    ensures value { result ≡ pages_evicted reply.now }
+    ensures bound { result < 2 ^ 63 }
+{
     match reply {
         Reply::Pages(pages) => pages.len() as u64,
         _ => 0,
     }
 }
 
-fn first_byte(reply: &Reply) -> u8 {
+fn first_byte(reply: &Reply) -> u8
+    ensures { result ≡ first_byte reply.now }
+{
     match reply {
         Reply::Bytes(bytes) => match bytes.as_slice().first() {
             Some(byte) => *byte,
