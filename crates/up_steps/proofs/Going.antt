@@ -23,9 +23,9 @@ use Rattle.up_worker.specs.declared.wish.Heard.{Heard}
 use Rattle.up_worker.specs.declared.wish.Heard.TheVariants as heard
 use Rattle.up_worker.specs.declared.wish.Wish.{Wish}
 use Rattle.up_worker.specs.declared.wish.Wish.TheVariants as wishes
-use Rattle.up_worker.proofs.Saying.{good, is_for, access_keeps}
-use Rattle.up_worker.proofs.Wished.{asks_again}
-use Rattle.up_worker.proofs.Ruling.{after_unsettled}
+use Rattle.up_steps.proofs.DevSaying.{good, is_for, access_keeps}
+use Rattle.up_steps.proofs.DevSaying.{asks_again}
+use Rattle.up_steps.proofs.DevSaying.{after_unsettled}
 use Rattle.up_steps.specs.Asked.{parks, may_park, settled_in, ticket_in, refused_in, IsNext, AreNext, IsDone, supplied, or_supplied, wanted, Comes, Brings, AllBring}
 use Rattle.up_steps.specs.Steps.{Stops}
 use Rattle.up_steps.specs.Told.{last_parks}
@@ -191,7 +191,7 @@ going_begins j start a now made t doing quiet tail told calm brings stops stoppe
   parking = λ one way some. absurd cc;
   brings = brings;
   stops = stops;
-  stopped = λ no. stopped;
+  stopped = λ unless. stopped;
   says = says_begins j start (started a doing) [] made t (under_way (started a doing)) refl refl refl quiet (λ access. refl) tail calm;
 }
 
@@ -354,10 +354,10 @@ loan_parks_none true m = refl
 loan_parks_none false m = refl
 
 unsettled_parks : (one : Aim) (reply : Reply) → settles reply ≡ false → is_park (unsettled (Some one) reply) ≡ false → parks reply ≡ false
-unsettled_parks one (replies.Needs m) unmet no = refl
-unsettled_parks one (replies.Blocked u) unmet no = absurd cc
-unsettled_parks one replies.Waiting unmet no = absurd cc
-unsettled_parks one _ unmet no = absurd cc
+unsettled_parks one (replies.Needs m) unmet unless = refl
+unsettled_parks one (replies.Blocked u) unmet unless = absurd cc
+unsettled_parks one replies.Waiting unmet unless = absurd cc
+unsettled_parks one _ unmet unless = absurd cc
 
 holds_parking : (reply : Reply) (ticket : Option ℕ) (one : Aim) → settles reply ≡ false → is_some (ticket_after reply ticket) ≡ true
     → (parks reply ≡ true → may_park one.call ≡ true) → (is_some ticket ≡ true → may_park one.call ≡ true) → may_park one.call ≡ true
@@ -397,9 +397,9 @@ says_replied false j start a now made t x unmet k calm waits count =
 
 stopped_replied : (done : Bool) (a : Acting) (reply : Reply) (one : Aim) → settles reply ≡ done → under_way a ≡ Some one
     → is_park (next_wish a (heard.Replied reply)) ≡ false → parks reply ≡ false
-stopped_replied true a reply one settled way no = settled_parks_none reply settled
-stopped_replied false a reply one unmet way no =
-    unsettled_parks one reply unmet (ap is_park (sym (after_unsettled a reply one unmet way)) ∙ no)
+stopped_replied true a reply one settled way unless = settled_parks_none reply settled
+stopped_replied false a reply one unmet way unless =
+    unsettled_parks one reply unmet (ap is_park (sym (after_unsettled a reply one unmet way)) ∙ unless)
 
 going_replied : (j : Judge) (start : List Entered) (a : Acting) (object : ℕ) (call : Call) (now made t : List Entered) (entry : Entry)
     → Going j start a (wishes.Act object call) now made t → entry.call ≡ call → (is_waiting entry.reply ≡ true → is_retry call ≡ true)
@@ -412,11 +412,11 @@ going_replied j start a object call now made t entry g of_call waits parking =
     record {
       settled = count;
       ticket = ap (λ held. ticket_after entry.reply held) g.ticket ∙ sym (ticket_more x now k.evict);
-      next = (g.next, λ no. k.next);
+      next = (g.next, λ unless. k.next);
       told = g.told;
       calm = g.calm;
       parking = parking_more (settles entry.reply) a entry.reply k.one refl k.way g.parking (λ is. k.parks_of (parking is));
-      brings = (g.brings, λ no. k.brings);
+      brings = (g.brings, λ unless. k.brings);
       stops = (g.stops, g.stopped refl);
       stopped = stopped_replied (settles entry.reply) a entry.reply k.one refl k.way;
       says = says_replied (settles entry.reply) j start a now made t x refl k g.calm (λ is. k.retries (subst (λ c. is_retry c ≡ true) (sym of_call) (waits is))) count;
@@ -455,13 +455,13 @@ going_resized j start a object pages now made t entry g of_call settled =
     record {
       settled = count;
       ticket = sym (ticket_more x now k.evict ∙ unheld entry.reply (ticket_in now) settled);
-      next = (g.next, λ no. k.next);
+      next = (g.next, λ unless. k.next);
       told = g.told;
       calm = g.calm;
       parking = λ one way some. absurd cc;
-      brings = (g.brings, λ no. k.brings);
+      brings = (g.brings, λ unless. k.brings);
       stops = (g.stops, g.stopped refl);
-      stopped = λ no. settled_parks_none entry.reply settled;
+      stopped = λ unless. settled_parks_none entry.reply settled;
       says = says_begins j start after (x ∷ now) (x ∷ made) (x ∷ t) (under_way after) refl count refl (quiet_more x made k.evict settled)
           (λ access. absurd (refused_free a now object pages there access)) (settled_parks_none entry.reply settled) g.calm;
     }
@@ -517,7 +517,7 @@ going_gathered j start a who count now made t b new g own gathers =
       parking = g.parking;
       brings = evicts_bring who j start new made own g.brings;
       stops = evicts_stop who new made own (g.stopped refl) g.stops;
-      stopped = λ no. evicts_park_none who new made own (g.stopped refl);
+      stopped = λ unless. evicts_park_none who new made own (g.stopped refl);
       says = says_makes j start after (new ++ now) (new ++ made) (new ++ t) g.says.one b g.says.way
           (comes_gathered j start made new who count b g.says.one.call own g.says.none g.says.lends g.says.count_is gathers)
           (free_more a who new now own g.says.free);
@@ -543,7 +543,7 @@ going_lent j start a now made t b g lent =
       parking = g.parking;
       brings = g.brings;
       stops = g.stops;
-      stopped = λ no. g.stopped refl;
+      stopped = λ unless. g.stopped refl;
       says = says_makes j start after now made t w.one b w.way (comes_lent j start made g.says.0 b w.one.call w.none w.lends w.count_is lent) w.free;
     }
 
@@ -557,7 +557,7 @@ ends_after a un = ended_by a.ticket (under_way a) un
 
 going_lasts : (j : Judge) (start : List Entered) (a : Acting) (said : Wish) (now made t : List Entered) → Going j start a said now made t → is_park said ≡ false
     → Lasts a said now made t → Going j start (next_acting a heard.Done) (next_wish a heard.Done) now made t
-going_lasts j start a said now made t g no lasts =
+going_lasts j start a said now made t g unless lasts =
     let after = next_acting a heard.Done in
     record {
       settled = g.settled;
@@ -568,7 +568,7 @@ going_lasts j start a said now made t g no lasts =
       parking = g.parking;
       brings = g.brings;
       stops = g.stops;
-      stopped = λ none. g.stopped no;
+      stopped = λ none. g.stopped unless;
       says = subst (λ w. Says j start after now made t w) (sym (ends_after a lasts.unticketed))
           (record { done = inl lasts.done; quiet = lasts.quiet; tail = lasts.tail });
     }
@@ -576,9 +576,9 @@ going_lasts j start a said now made t g no lasts =
 going_done : (j : Judge) (start : List Entered) (a : Acting) (said : Wish) (now made t : List Entered) (answer : Heard) (new : List Entered)
     → Going j start a said now made t → is_park said ≡ false → Lasts a said now made t → DoneWithout answer new
     → Going j start (next_acting a answer) (next_wish a answer) (new ++ now) (new ++ made) (new ++ t)
-going_done j start a said now made t answer new g no lasts does =
+going_done j start a said now made t answer new g unless lasts does =
     subst (λ n. Going j start (next_acting a answer) (next_wish a answer) (n ++ now) (n ++ made) (n ++ t)) (sym does.none)
-    (subst (λ h. Going j start (next_acting a h) (next_wish a h) now made t) (sym does.told) (going_lasts j start a said now made t g no lasts))
+    (subst (λ h. Going j start (next_acting a h) (next_wish a h) now made t) (sym does.told) (going_lasts j start a said now made t g unless lasts))
 
 -- a parked actor goes on, at the beginning of a block
 ticket_goes : (ticket : Option ℕ) (aim : Option Aim) → is_some ticket ≡ true → cond (is_some ticket) (makes aim ticket Nothing) wishes.LineEnd ≡ makes aim ticket Nothing
@@ -609,19 +609,19 @@ going_woken j start a object now t g =
 pub going_hears : (j : Judge) (start : List Entered) (a : Acting) (said : Wish) (who : ℕ) (now made t : List Entered) (answer : Heard) (new : List Entered)
     → Going j start a said now made t → is_park said ≡ false → Carries who said answer new → JudgedWish j said answer new (made ++ start) → AllFair new
     → Going j start (next_acting a answer) (next_wish a answer) (new ++ now) (new ++ made) (new ++ t)
-going_hears j start a (wishes.Act object call) who now made t answer new g no does judged fair = going_act j start a who object call now made t answer new g does fair
-going_hears j start a (wishes.Resize object pages) who now made t answer new g no does judged fair = going_resize j start a who object pages now made t answer new g does
-going_hears j start a (wishes.Gather count) who now made t answer new g no does judged fair =
+going_hears j start a (wishes.Act object call) who now made t answer new g unless does judged fair = going_act j start a who object call now made t answer new g does fair
+going_hears j start a (wishes.Resize object pages) who now made t answer new g unless does judged fair = going_resize j start a who object pages now made t answer new g does
+going_hears j start a (wishes.Gather count) who now made t answer new g unless does judged fair =
     subst (λ h. Going j start (next_acting a h) (next_wish a h) (new ++ now) (new ++ made) (new ++ t)) (sym judged.1)
     (going_gathered j start a who count now made t judged.0 new g does.own judged.2)
-going_hears j start a wishes.Loan who now made t answer new g no does judged fair =
+going_hears j start a wishes.Loan who now made t answer new g unless does judged fair =
     subst (λ n. Going j start (next_acting a answer) (next_wish a answer) (n ++ now) (n ++ made) (n ++ t)) (sym judged.2)
     (subst (λ h. Going j start (next_acting a h) (next_wish a h) now made t) (sym judged.1) (going_lent j start a now made t judged.0 g judged.3))
-going_hears j start a (wishes.Park object) who now made t answer new g no does judged fair = absurd cc
-going_hears j start a wishes.Age who now made t answer new g no does judged fair = going_done j start a wishes.Age now made t answer new g no g.says does
-going_hears j start a wishes.Keep who now made t answer new g no does judged fair = going_done j start a wishes.Keep now made t answer new g no g.says does
-going_hears j start a wishes.Give who now made t answer new g no does judged fair = going_done j start a wishes.Give now made t answer new g no g.says does
-going_hears j start a (wishes.Relieve frames) who now made t answer new g no does judged fair = absurd g.says
-going_hears j start a wishes.Watch who now made t answer new g no does judged fair = absurd g.says
-going_hears j start a (wishes.Site object step) who now made t answer new g no does judged fair = absurd does
-going_hears j start a wishes.LineEnd who now made t answer new g no does judged fair = absurd does
+going_hears j start a (wishes.Park object) who now made t answer new g unless does judged fair = absurd cc
+going_hears j start a wishes.Age who now made t answer new g unless does judged fair = going_done j start a wishes.Age now made t answer new g unless g.says does
+going_hears j start a wishes.Keep who now made t answer new g unless does judged fair = going_done j start a wishes.Keep now made t answer new g unless g.says does
+going_hears j start a wishes.Give who now made t answer new g unless does judged fair = going_done j start a wishes.Give now made t answer new g unless g.says does
+going_hears j start a (wishes.Relieve frames) who now made t answer new g unless does judged fair = absurd g.says
+going_hears j start a wishes.Watch who now made t answer new g unless does judged fair = absurd g.says
+going_hears j start a (wishes.Site object step) who now made t answer new g unless does judged fair = absurd does
+going_hears j start a wishes.LineEnd who now made t answer new g unless does judged fair = absurd does

@@ -3,3 +3,4 @@ pub mod Told
 pub mod Steps
 pub mod World
 pub mod Laws
+pub mod Row

@@ -3,4 +3,6 @@
 
 mod laws;
 
-pub use laws::doing_wishes_makes_the_steps;
+pub use laws::{
+    a_small_script_is_done_so, doing_wishes_makes_the_steps, other_entries_are_no_steps,
+};
