@@ -1,5 +1,5 @@
 -- The words that ask for a generated script, and the line that tells of its journal.
-use Rattle.std.specs.Prelude.{◌≡◌, ℕ, ◌++◌, ◌^◌, ◌-◌, Some, List, [], ◌∷◌, codes, decimal}
+use Rattle.std.specs.Prelude.{◌≡◌, ℕ, ◌++◌, Some, ⊥, List, [], ◌∷◌, codes, decimal}
 use Rattle.up_model.specs.declared.entry.Entry.{Entry}
 use Rattle.up_stage.specs.Played.{AreJournalsOf}
 use Rattle.up_stage.specs.Rounds.{generated}
@@ -14,6 +14,10 @@ pub record IsGen (words : List (List ℕ)) (seed count : ℕ) : Type 0 where
   pub are : words ≡ codes "gen" ∷ first ∷ second ∷ []
   pub seed : number 18446744073709551615 first ≡ Some seed
   pub count : number 12000 second ≡ Some count
+
+-- the words aren't gen and two such numbers
+abbrev pub IsNoGen : List (List ℕ) → Type 0
+IsNoGen words = (seed count : ℕ) → IsGen words seed count → ⊥
 
 abbrev pub summary_text : ℕ → ℕ → Summary → List ℕ
 summary_text seed count s =

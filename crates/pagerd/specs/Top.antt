@@ -10,7 +10,7 @@ use Rattle.pagerd.specs.declared.top.Answer.TheVariants.{Journals, Bad, Unbuilt}
 use Rattle.pagerd.specs.declared.top.Ended.{Ended}
 use Rattle.pagerd.specs.declared.top.Ended.TheVariants.{Written, Generated, Illegal as IllegalEnding, Words, Unread, Source, Sink, Memory}
 use Rattle.pagerd.specs.Built.{unbuilt_line}
-use Rattle.pagerd.specs.Generated.{IsGen, Summarizes}
+use Rattle.pagerd.specs.Generated.{IsGen, IsNoGen, Summarizes}
 use Rattle.pagerd.specs.Journals.{MakesJournals}
 use Rattle.pagerd.specs.Text.{fault_text, why_text, illegal_text}
 use Rattle.pagerd.specs.declared.checking.Judgement.{Judgement}
@@ -130,10 +130,6 @@ pub record HasJournals (left : Option (List ℕ)) (journals : List Named) : Type
   pub told : left ≡ Some bytes
   pub spelled : journals_of bytes ≡ Ok journals
 
--- the words aren't gen and two numbers
-abbrev pub IsNoGen : List (List ℕ) → Type 0
-IsNoGen words = (seed count : ℕ) → IsGen words seed count → ⊥
-
 -- these words ask for a generated script, and this line tells of its journal
 pub record HasSummary (words : List (List ℕ)) (text : List ℕ) : Type 0 where
   pub seed : ℕ
@@ -187,3 +183,14 @@ status_of Unread = 3
 status_of Source = 4
 status_of Sink = 5
 status_of Memory = 7
+
+-- the sink took the line that tells of a generated script's journal, or some first bytes of it
+pub record Told (seed count : ℕ) (written_before written_now : Option (List ℕ)) : Type 0 where
+  pub text : List ℕ
+  pub is : Summarizes seed count text
+  pub took : Appends written_before written_now text
+
+pub record ToldFront (seed count : ℕ) (written_before written_now : Option (List ℕ)) : Type 0 where
+  pub text : List ℕ
+  pub is : Summarizes seed count text
+  pub front : AppendsFront written_before written_now text

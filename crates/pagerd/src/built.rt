@@ -1,5 +1,5 @@
-ghost use Rattle.std.specs.Prelude.{◌≡◌, ◌≤◌, ◌*◌, true, length};
-ghost use Rattle.up_script.specs.Sound.{is_sound};
+ghost use Rattle.std.specs.Prelude.{◌≡◌};
+ghost use Rattle.up_stage.specs.Calls.{is_played};
 ghost use Rattle.pagerd.specs.Built as built;
 
 use up_model::Birth;
@@ -7,7 +7,6 @@ use up_script::{Action, ActorLine, Kind, Line, ObjectLine, Script};
 
 /// The first line of a form that isn't built.
 pub fn find_unbuilt(script: &Script) -> Option<u32>
-    requires { is_sound script.now ≡ true }
     ensures { result ≡ built.unbuilt_line script.now }
 {
     if let Some(line) = find_object(script.objects.as_slice()) {
@@ -20,7 +19,7 @@ pub fn find_unbuilt(script: &Script) -> Option<u32>
 }
 
 fn is_built_action(action: &Action) -> bool
-    ensures { result ≡ built.is_built_action action.now }
+    ensures { result ≡ is_played action.now }
 {
     match action {
         Action::Sync { .. } | Action::Turn { .. } => false,

@@ -1,3 +1,6 @@
+ghost use Rattle.std.specs.Prelude.{◌≡◌, ◌≤◌, map, string_bytes, IfOk, IfSome, IsNone};
+ghost use Rattle.pagerd.specs.Generated.{IsGen, IsNoGen, Summarizes, summary_text};
+
 use itoa::Buffer;
 use std::alloc::Global;
 use up_num::Memory;
@@ -15,7 +18,11 @@ pub struct Seed {
 }
 
 /// What the words ask for, where they are `gen` and two numbers within their limits.
-pub fn read_seed(words: &[String]) -> Option<Seed> {
+pub fn read_seed(words: &[String]) -> Option<Seed>
+    ensures some { IfSome result (λ asked. IsGen (map string_bytes words.now) asked.seed asked.rounds) }
+    ensures small { IfSome result (λ asked. asked.rounds ≤ 12000) }
+    ensures none { IsNone result → IsNoGen (map string_bytes words.now) }
+{
     match words {
         [command, seed, rounds] => {
             if command.as_str() != "gen" {
@@ -33,7 +40,10 @@ pub fn read_seed(words: &[String]) -> Option<Seed> {
 }
 
 /// Does the generated script, and gives the line that tells of its journal.
-pub fn told_of(alloc: Global, asked: Seed) -> Result<Vec<u8>, Memory> {
+pub fn told_of(alloc: Global, asked: Seed) -> Result<Vec<u8>, Memory>
+    requires { asked.rounds ≤ 12000 }
+    ensures { IfOk result (λ text. Summarizes asked.seed asked.rounds text.items) }
+{
     let script = generate(alloc, asked.seed, asked.rounds)?;
     let mut ended = play(alloc, &script)?;
     match ended.pop() {
@@ -42,7 +52,9 @@ pub fn told_of(alloc: Global, asked: Seed) -> Result<Vec<u8>, Memory> {
     }
 }
 
-fn summary_line(alloc: Global, asked: Seed, summary: &Summary) -> Result<Vec<u8>, Memory> {
+fn summary_line(alloc: Global, asked: Seed, summary: &Summary) -> Result<Vec<u8>, Memory>
+    ensures { IfOk result (λ text. text.items ≡ summary_text asked.seed asked.rounds summary.now) }
+{
     let mut text = Vec::new(alloc);
     let mut buffer = Buffer::new();
     text.extend_from_slice(b"gen ")?;

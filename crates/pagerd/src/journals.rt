@@ -1,3 +1,9 @@
+ghost use Rattle.std.specs.Prelude.{◌≡◌, ◌++◌, [], ◌∷◌, true, None, IfOk};
+ghost use Rattle.up_script.specs.Fit.{Fits};
+ghost use Rattle.up_script.specs.Sound.{is_sound};
+ghost use Rattle.pagerd.specs.Built.{unbuilt_line};
+ghost use Rattle.pagerd.specs.Journals.{MakesJournals, named_from, name_one};
+
 use std::alloc::Global;
 use up_model::Entries;
 use up_num::{Items, Memory};
@@ -6,7 +12,12 @@ use up_stage::play;
 use up_text::{Journals, Named};
 
 /// Does a script's lines in file order, each as far as its actor comes, and gives the journals of its objects in their order.
-pub fn journals_of(alloc: Global, script: &Script) -> Result<Journals, Memory> {
+pub fn journals_of(alloc: Global, script: &Script) -> Result<Journals, Memory>
+    requires sound { is_sound script.now ≡ true }
+    requires fits { Fits script.now }
+    requires built { unbuilt_line script.now ≡ None }
+    ensures { IfOk result (λ journals. MakesJournals script.now journals) }
+{
     let ended = play(alloc, script)?;
     name_all(alloc, script.objects.as_slice(), ended)
 }

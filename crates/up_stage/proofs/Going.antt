@@ -64,13 +64,13 @@ did_nothing lines at line old a rest is there free waits = record {
           low = λ v within. let l = p.low v within in omega arith;
           even = λ v within loose.
               pace_other lines v at world line is (not_own (is_go line.action) (line.actor == v)
-                  (λ go. elim (line.actor == v) as (λ b. (line.actor == v) ≡ b → b ≡ false) [
-                    | true ↦ λ q. let parked : is_parked s line.actor world ≡ true = sym same ∙ waits go in
-                        let by : line.actor ≡ v = nat_eq_true line.actor v q in
-                        let no : is_parked s line.actor world ≡ false = ap (λ (n : ℕ). is_parked s n world) by ∙ loose in absurd cc
-                    | false ↦ λ q. refl
-                  ] refl))
-                  (p.even v within loose);
+              (λ go. elim (line.actor == v) as (λ b. (line.actor == v) ≡ b → b ≡ false) [
+                | true ↦ λ q. let parked : is_parked s line.actor world ≡ true = sym same ∙ waits go in
+                    let by : line.actor ≡ v = nat_eq_true line.actor v q in
+                    let no : is_parked s line.actor world ≡ false = ap (λ (n : ℕ). is_parked s n world) by ∙ loose in absurd cc
+                | false ↦ λ q. refl
+              ] refl))
+              (p.even v within loose);
         };
       };
 }
@@ -122,9 +122,9 @@ did_act lines at line old new a is there each go free rest shape done acts = rec
       let within : who < length old.done = let w = slice_get_within old.actors who a there in omega (arith, each) in
       let loose : is_parked s who world ≡ false = sym (parked_is births s world old who a st there) ∙ free in
       let own : HasBegun lines who (at + 1) (b.more ++ happens who event ∷ world) =
-          pace_more s lines who at world b.more line is (nat_eq-same who) go (p.even who within loose) b.answers b.goes in
+      pace_more s lines who at world b.more line is (nat_eq-same who) go (p.even who within loose) b.answers b.goes in
       let placed : (v : ℕ) → slice_index new.done v ≡ cond (who == v) (at + 1) (slice_index old.done v) =
-          λ v. ap (λ (xs : List ℕ). slice_index xs v) done ∙ place_of old.done who (at + 1) v within in
+      λ v. ap (λ (xs : List ℕ). slice_index xs v) done ∙ place_of old.done who (at + 1) v within in
       let count : length new.done ≡ length old.done = ap length done ∙ length-set old.done who (at + 1) in
       record {
         now = b.more ++ happens who event ∷ world;
@@ -136,14 +136,14 @@ did_act lines at line old new a is there each go free rest shape done acts = rec
           pace = each_of who (λ v. v < length new.done → HasBegun lines v (slice_index new.done v) (b.more ++ happens who event ∷ world))
               (λ _. subst (λ (k : ℕ). HasBegun lines who k (b.more ++ happens who event ∷ world)) (sym (placed who ∙ rw (nat_eq-same who) refl)) own)
               (λ v apart low. subst (λ (k : ℕ). HasBegun lines v k (b.more ++ happens who event ∷ world)) (sym (placed v ∙ rw apart refl))
-                  (begun_others s lines who v (slice_index old.done v) b.more event world apart b.goes (p.pace v (rw count at low))));
+              (begun_others s lines who v (slice_index old.done v) b.more event world apart b.goes (p.pace v (rw count at low))));
           low = each_of who (λ v. v < length new.done → slice_index new.done v ≤ at + 1)
               (λ _. let e : slice_index new.done who ≡ at + 1 = placed who ∙ rw (nat_eq-same who) refl in omega arith)
               (λ v apart low. let e : slice_index new.done v ≡ slice_index old.done v = placed v ∙ rw apart refl in let l = p.low v (rw count at low) in omega arith);
           even = each_of who (λ v. v < length new.done → is_parked s v (b.more ++ happens who event ∷ world) ≡ false → HasBegun lines v (at + 1) (b.more ++ happens who event ∷ world))
               (λ _ _. own)
               (λ v apart low rests. pace_other lines v at (b.more ++ happens who event ∷ world) line is (other_line line v apart)
-                  (begun_others s lines who v at b.more event world apart b.goes (p.even v (rw count at low) (sym (parked_others s who v b.more event world apart b.goes) ∙ rests))));
+              (begun_others s lines who v at b.more event world apart b.goes (p.even v (rw count at low) (sym (parked_others s who v b.more event world apart b.goes) ∙ rests))));
         };
       };
 }
@@ -170,8 +170,8 @@ did_resume lines at line old mid new a is there each go waits shape done resumes
       let first = r.more ++ happens who event ∷ world in
       let same : begun (events_of who (happens who event ∷ world)) ≡ begun (events_of who world) = rw (nat_eq-same who) refl in
       let pace : HasBegun lines who (slice_index mid.done who) first =
-          answers_begun s who r.more (happens who event ∷ world) r.answers r.goes ∙ same ∙ p.pace who within
-          ∙ ap (λ (xs : List ℕ). given_to who (reverse (take (slice_index xs who) lines))) (sym done) in
+      answers_begun s who r.more (happens who event ∷ world) r.answers r.goes ∙ same ∙ p.pace who within
+      ∙ ap (λ (xs : List ℕ). given_to who (reverse (take (slice_index xs who) lines))) (sym done) in
       let before : slice_index mid.done who ≤ at = subst (λ (xs : List ℕ). slice_index xs who ≤ at) (sym done) (p.low who within) in
       let u = c.went births s first r.stands pace before in
       let more = u.caught.more ++ r.more in
@@ -181,7 +181,7 @@ did_resume lines at line old mid new a is there each go waits shape done resumes
       let goes : GoesOn s who more (happens who event ∷ world) = goes_append s who u.caught.more r.more (happens who event ∷ world) u.caught.goes r.goes in
       let own : HasBegun lines who (slice_index new.done who) now = ap (λ (w : List Happening). begun (events_of who w)) joined ∙ u.caught.pace in
       let even : is_parked s who now ≡ false → HasBegun lines who at now =
-          λ free. ap (λ (w : List Happening). begun (events_of who w)) joined ∙ u.even (ap (λ (w : List Happening). is_parked s who w) (sym joined) ∙ free) in
+      λ free. ap (λ (w : List Happening). begun (events_of who w)) joined ∙ u.even (ap (λ (w : List Happening). is_parked s who w) (sym joined) ∙ free) in
       let g = given_more who lines (slice_index new.done who) at u.low in
       let none : is_own who line ≡ false = rw go (and_false (line.actor == who)) in
       let count : length new.done ≡ length old.done = c.done.count ∙ ap length done in
@@ -204,14 +204,14 @@ did_resume lines at line old mid new a is there each go waits shape done resumes
           pace = each_of who (λ v. v < length new.done → HasBegun lines v (slice_index new.done v) now)
               (λ _. own)
               (λ v apart low. let e : slice_index new.done v ≡ slice_index old.done v = c.done.others v apart ∙ ap (λ (xs : List ℕ). slice_index xs v) done in
-                  subst (λ (k : ℕ). HasBegun lines v k now) (sym e) (begun_others s lines who v (slice_index old.done v) more event world apart goes (p.pace v (rw count at low))));
+              subst (λ (k : ℕ). HasBegun lines v k now) (sym e) (begun_others s lines who v (slice_index old.done v) more event world apart goes (p.pace v (rw count at low))));
           low = each_of who (λ v. v < length new.done → slice_index new.done v ≤ at + 1)
               (λ _. let l = u.low in omega arith)
               (λ v apart low. let e : slice_index new.done v ≡ slice_index old.done v = c.done.others v apart ∙ ap (λ (xs : List ℕ). slice_index xs v) done in let l = p.low v (rw count at low) in omega arith);
           even = each_of who (λ v. v < length new.done → is_parked s v now ≡ false → HasBegun lines v (at + 1) now)
               (λ _ free. pace_other lines who at now line is none (even free))
               (λ v apart low free. pace_other lines v at now line is (other_line line v apart)
-                  (begun_others s lines who v at more event world apart goes (p.even v (rw count at low) (sym (parked_others s who v more event world apart goes) ∙ free))));
+              (begun_others s lines who v at more event world apart goes (p.even v (rw count at low) (sym (parked_others s who v more event world apart goes) ∙ free))));
         };
       };
 }

@@ -9,3 +9,5 @@ pub mod Fitting
 pub mod Resting
 pub mod Lining
 pub mod Going
+pub mod Following
+pub mod Rounding

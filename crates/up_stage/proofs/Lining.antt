@@ -153,11 +153,11 @@ caught_more births s lines who at world now new line a is there free pass c =
             pace = ap (λ (w : List Happening). begun (events_of who w)) joined ∙ pace_more s lines who at (c.more ++ world) m.more line is own go c.pace m.answers m.goes;
           }
       | false ↦ λ q rested. record {
-            more = c.more;
-            stands = stands_same births s (c.more ++ world) now new rested.hands rested.actors c.stands;
-            goes = c.goes;
-            pace = pace_other lines who at (c.more ++ world) line is q c.pace;
-          }
+        more = c.more;
+        stands = stands_same births s (c.more ++ world) now new rested.hands rested.actors c.stands;
+        goes = c.goes;
+        pace = pace_other lines who at (c.more ++ world) line is q c.pace;
+      }
     ] refl pass
 
 pub index_set : (xs : List ℕ) (k x : ℕ) → k < length xs → slice_index (slice_set xs k x) k ≡ x

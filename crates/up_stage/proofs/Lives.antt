@@ -122,8 +122,8 @@ same_from : (n : ℕ) (lives : List Life) (g : List Entered) → ((k : ℕ) → 
 same_from n [] g same = refl
 same_from n (life ∷ lives) g same =
     let own : of_object n g ≡ life.journal =
-        same n (omega arith) ∙ tagged_own n life.journal (all_of (n + 1) lives)
-        ∙ ap (λ (t : List Entry). life.journal ++ t) (none_above (n + 1) n lives (omega arith)) ∙ append-nil life.journal in
+    same n (omega arith) ∙ tagged_own n life.journal (all_of (n + 1) lives)
+    ∙ ap (λ (t : List Entry). life.journal ++ t) (none_above (n + 1) n lives (omega arith)) ∙ append-nil life.journal in
     ap (λ (h : List Entry). record { birth = life.birth; journal = h } ∷ lives_from (n + 1) (births_in lives) g) own
     ∙ ap (λ (ls : List Life). life ∷ ls) (same_from (n + 1) lives g (λ k low. same k (omega arith) ∙ tagged_other n k life.journal (all_of (n + 1) lives) (other_numbers n k (omega arith))))
 

@@ -160,7 +160,7 @@ first_pending : (a : Acting) (aim : Aim) → a.ticket ≡ None → under_way a �
     → Pending a (cond test (makes (Some aim) None Nothing) (wishes.Gather (frames_before aim.call)))
 first_pending a aim none is true test =
     resize_or a aim Nothing _ is refl (subst (λ (t : Option ℕ). IsRightFor t aim.call Nothing) (sym none) (inl (nat_eq_true (frames_before aim.call) 0 test)))
-        (ap (λ (t : Option ℕ). bringing Nothing (attempt t aim.call)) (sym none))
+    (ap (λ (t : Option ℕ). bringing Nothing (attempt t aim.call)) (sym none))
 first_pending a aim none is false test =
     let kind = gathers_takes aim.call test in
     record {

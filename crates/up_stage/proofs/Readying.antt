@@ -44,7 +44,7 @@ due_reply births x g legal birth is =
     let now = life_at births (x ∷ g) x.object birth is in
     let lawful = legal_at (lives_of births (x ∷ g)) x.object (record { birth = birth; journal = of_object x.object (x ∷ g) }) legal now in
     let here : Legal birth (x.entry ∷ of_object x.object g) =
-        subst (λ (b : Bool). Legal birth (cond b (x.entry ∷ of_object x.object g) (of_object x.object g))) (nat_eq-same x.object) lawful in
+    subst (λ (b : Bool). Legal birth (cond b (x.entry ∷ of_object x.object g) (of_object x.object g))) (nat_eq-same x.object) lawful in
     here.2
 
 -- the ticket that an actor holds after its call
@@ -71,11 +71,11 @@ holds_act births x g legal birth at a by p holds (replies.Blocked n) r = λ t ai
     let on : x.object ≡ aim.object = p.on ∙ ap (λ (one : Aim). one.object) (sym same) in
     let due = due_reply births x g legal birth at in
     let may : may_park x.entry.call ≡ true =
-        parks_right birth (of_object x.object g) x.entry.who x.entry.epoch x.entry.call (ap parks_reply (sym due ∙ r)) in
+    parks_right birth (of_object x.object g) x.entry.who x.entry.epoch x.entry.call (ap parks_reply (sym due ∙ r)) in
     record {
       holds = subst (λ (o : ℕ). HoldsOn (lives_of births (x ∷ g)) a.who o t) on
           (subst (λ (w : ℕ). HoldsOn (lives_of births (x ∷ g)) w x.object t) by
-              (held_blocked births x g legal birth at t (r ∙ ap (λ (k : ℕ). replies.Blocked k) number)));
+          (held_blocked births x g legal birth at t (r ∙ ap (λ (k : ℕ). replies.Blocked k) number)));
       plain = rw same (parked_plain (lives_of births g) a p.aim a.ticket p.brought refl p.is holds (ap may_park (sym p.made) ∙ may));
     }
 holds_act births x g legal birth at a by p holds r is = λ t aim held under. absurd cc
@@ -146,8 +146,8 @@ act_is births made g a object call answer legal below one p few fit holds =
     (subst (λ (h : Heard). Carried births (x ∷ []) g a (wishes.Act object call) h) (sym one.told)
     (subst (λ (c : Call). Carried births (x ∷ []) g a (wishes.Act object c) (heard.Replied one.entry.reply)) one.of_call
     (carried_act births x g (subst (λ (m : List Entered). AllLegal (lives_of births (m ++ g))) one.is legal) birth.0 birth.1 a one.by
-        (subst (λ (c : Call). Makes a object c) (sym one.of_call) p) (λ w. ap is_retry one.of_call ∙ one.waits w)
-        (subst (λ (h : Heard). AsksFew h) one.told few) fit holds)))
+    (subst (λ (c : Call). Makes a object c) (sym one.of_call) p) (λ w. ap is_retry one.of_call ∙ one.waits w)
+    (subst (λ (h : Heard). AsksFew h) one.told few) fit holds)))
 
 evicts_of_own : (by : ℕ) (made : List Entered) → OwnEvicts by made → (who t : ℕ) → AllKeepIt who t made
 evicts_of_own by made own who t = evicts_keep by who t made own
@@ -264,7 +264,7 @@ ready_more births g old new who wish answer r goes lives d legal kept actors don
                 | false ↦ λ q at. let k : ActorKeeps (lives_of births g) v b = subst (λ (ls : List Life). ActorKeeps ls v b) lives (r.keeps.each v b at) in
                     subst (λ (ls : List Life). ActorKeeps ls v b) (sym now)
                     (keeps_actor births d.made g v b b k refl refl refl refl
-                        (holds_on births d.made g lawful b (λ t. others_all who b.who wish answer d.made (rw k.number q) d.carries t) k.holds))
+                    (holds_on births d.made g lawful b (λ t. others_all who b.who wish answer d.made (rw k.number q) d.carries t) k.holds))
               ] refl (sym (slice_get-set old.actors who (next_acting a answer) v within) ∙ ap (λ (xs : List Acting). slice_get xs v) (sym actors) ∙ is);
         };
         acting = next_acting a answer;

@@ -188,7 +188,7 @@ acted old mid new line a is free hands actors follows births s world st =
     let doing : Doing = OneLine line.action in
     let begun = stands_begun births s world old mid who doing a st.stands (said_end births s world old who a st.stands is free) is hands actors in
     let first : first_wish a doing ≡ said_by s who (happens who (Begins doing) ∷ world) =
-        ap (λ (x : Acting). first_wish x doing) (st.stands.actors who a is) ∙ ap (λ (o : Out). o.said) (sym (out_own s who (Begins doing) world)) in
+    ap (λ (x : Acting). first_wish x doing) (st.stands.actors who a is) ∙ ap (λ (o : Out). o.said) (sym (out_own s who (Begins doing) world)) in
     let f = follows births s (happens who (Begins doing) ∷ world) begun first in
     record {
       now = f.more ++ happens who (Begins doing) ∷ world;
@@ -203,7 +203,7 @@ resumed old mid new who a is waits hands actors follows births s world st =
     let park = said_park births s world old who a st is waits in
     let woken = stands_woken births s world old mid who park.0 a st.stands park.1 is hands actors in
     let first : next_wish a heard.Done ≡ said_by s who (happens who (Hears heard.Done []) ∷ world) =
-        ap (λ (x : Acting). next_wish x heard.Done) (st.stands.actors who a is) ∙ ap (λ (o : Out). o.said) (sym (out_own s who (Hears heard.Done []) world)) in
+    ap (λ (x : Acting). next_wish x heard.Done) (st.stands.actors who a is) ∙ ap (λ (o : Out). o.said) (sym (out_own s who (Hears heard.Done []) world)) in
     let f = follows births s (happens who (Hears heard.Done []) ∷ world) woken first in
     record {
       more = f.more;

@@ -86,7 +86,7 @@ stands_heard births s world old new who wish answer a st said is d parking actor
     let m = moment_in s world in
     let g = entries world in
     let kept : s.loans (sum m.kept) ≡ loans old.hands.loan (sum old.hands.kept) births =
-        ap (λ (f : ℕ → List Entered → ℕ). f (sum m.kept)) st.loans ∙ ap (λ (k : List ℕ). loans old.hands.loan (sum k) births) (sym st.kept) in
+    ap (λ (f : ℕ → List Entered → ℕ). f (sum m.kept)) st.loans ∙ ap (λ (k : List ℕ). loans old.hands.loan (sum k) births) (sym st.kept) in
     record {
       objects = st.objects;
       levels = st.levels ∙ sym (ap (λ (h : Handed). h.levels) d.is);

@@ -182,12 +182,12 @@ after_needs : (lives : List Life) (a : Acting) (object : ℕ) (call : Call) (n :
 after_needs lives a object call n p asks small holds =
     let of : call ≡ bringing p.brought (attempt a.ticket p.aim.call) = p.made in
     let takes : takes_frames (attempt a.ticket p.aim.call) ≡ true =
-        sym (takes_bringing p.brought (attempt a.ticket p.aim.call)) ∙ ap takes_frames (sym of) ∙ takes_some call asks.brought asks.is in
+    sym (takes_bringing p.brought (attempt a.ticket p.aim.call)) ∙ ap takes_frames (sym of) ∙ takes_some call asks.brought asks.is in
     let none : frames_before (attempt a.ticket p.aim.call) ≡ 0 =
-        sym (before_bringing p.brought (attempt a.ticket p.aim.call)) ∙ ap frames_before (sym of) ∙ asks.none in
+    sym (before_bringing p.brought (attempt a.ticket p.aim.call)) ∙ ap frames_before (sym of) ∙ asks.none in
     let one : borrows p.aim.call ≡ true → n ≡ 1 =
-        λ lent. asks.one (ap borrows of ∙ borrows_bringing p.brought (attempt a.ticket p.aim.call)
-            ∙ ap (λ (t : Option ℕ). borrows (attempt t p.aim.call)) (no_ticket lives a p.aim a.ticket refl p.is lent holds) ∙ lent) in
+    λ lent. asks.one (ap borrows of ∙ borrows_bringing p.brought (attempt a.ticket p.aim.call)
+    ∙ ap (λ (t : Option ℕ). borrows (attempt t p.aim.call)) (no_ticket lives a p.aim a.ticket refl p.is lent holds) ∙ lent) in
     asks_after lives a object call n p asks small holds p.aim p.is takes none one (borrows p.aim.call) refl
 
 -- a call that parks its actor

@@ -66,10 +66,10 @@ held_one births x g legal who object t keeps h =
     let lawful = legal_at (lives_of births (x ∷ g)) object (record { birth = h.life.birth; journal = of_object object (x ∷ g) }) legal now in
     let before : Holds (of_object object g) who t = (ap (λ j. owner j t) (sym one.1) ∙ h.holder, ap (λ j. spent j t) (sym one.1) ∙ h.unspent) in
     let after : Holds (of_object object (x ∷ g)) who t =
-        elim (x.object == object) as (λ b. Legal h.life.birth (cond b (x.entry ∷ of_object object g) (of_object object g)) → Holds (cond b (x.entry ∷ of_object object g) (of_object object g)) who t) [
-          | true ↦ λ lawful_here. holds_entry h.life.birth x.entry (of_object object g) lawful_here who t keeps before
-          | false ↦ λ lawful_here. before
-        ] lawful in
+    elim (x.object == object) as (λ b. Legal h.life.birth (cond b (x.entry ∷ of_object object g) (of_object object g)) → Holds (cond b (x.entry ∷ of_object object g) (of_object object g)) who t) [
+      | true ↦ λ lawful_here. holds_entry h.life.birth x.entry (of_object object g) lawful_here who t keeps before
+      | false ↦ λ lawful_here. before
+    ] lawful in
     record { life = record { birth = h.life.birth; journal = of_object object (x ∷ g) }; is = now; holder = after.0; unspent = after.1 }
 
 abbrev pub AllKeepIt : ℕ → ℕ → List Entered → Type 0

@@ -7,6 +7,8 @@ use Rattle.up_model.specs.declared.entry.Brought.{Brought}
 use Rattle.up_model.specs.declared.entry.Brought.TheVariants.{Nothing, Frames, Scanned}
 use Rattle.up_model.specs.declared.entry.Call.{Call}
 use Rattle.up_model.specs.declared.entry.Call.TheVariants as calls
+use Rattle.up_model.specs.declared.entry.Reply.{Reply}
+use Rattle.up_model.specs.declared.entry.Reply.TheVariants.{Needs}
 use Rattle.up_core.specs.Requests.{brought_in, takes_frames}
 use Rattle.up_hands.specs.Handed.{Handed, AllLegal, empty_hand}
 use Rattle.up_hands.specs.Carried.{hand_for}
@@ -14,6 +16,8 @@ use Rattle.up_worker.specs.Acting.{Acting, under_way}
 use Rattle.up_worker.specs.Calls.{bringing, borrows, frames_before, calls_of}
 use Rattle.up_worker.specs.Wishes.{attempt, wants_after}
 use Rattle.up_worker.specs.declared.course.Aim.{Aim}
+use Rattle.up_worker.specs.declared.wish.Heard.{Heard}
+use Rattle.up_worker.specs.declared.wish.Heard.TheVariants as heard
 use Rattle.up_worker.specs.declared.wish.Wanted.{Wanted}
 use Rattle.up_worker.specs.declared.wish.Wanted.TheVariants as wanted
 use Rattle.up_worker.specs.declared.wish.Wish.{Wish}
@@ -153,3 +157,12 @@ waits_for_go (Some a) = is_done_wanted a.wants
 
 abbrev pub is_waiting : Staged → ℕ → Bool
 is_waiting s who = waits_for_go (slice_get s.actors who)
+
+-- how many frames a reply asks for
+abbrev pub asked_in : Reply → ℕ
+asked_in (Needs count) = count
+asked_in _ = 0
+
+abbrev pub asked : Heard → ℕ
+asked (heard.Replied reply) = asked_in reply
+asked _ = 0

@@ -1,9 +1,9 @@
-ghost use Rattle.std.specs.Prelude.{◌≡◌, ◌≤◌, ◌<◌, ◌+◌, true, false, length, slice_get, slice_index, slice_set, Some, IfOk, OnOk};
+ghost use Rattle.std.specs.Prelude.{◌≡◌, ◌≤◌, ◌<◌, ◌^◌, true, false, length, slice_get, slice_index, slice_set, Some, IfOk, OnOk};
 ghost use Rattle.up_hands.specs.Handed.{ends_of, AllLegal};
 ghost use Rattle.up_steps.specs.Told as told;
 ghost use Rattle.up_steps.specs.World as world;
 ghost use Rattle.up_stage.specs.Staged.{SameShape};
-ghost use Rattle.up_stage.specs.Ready.{AtRest, Ready, rank_at, is_waiting};
+ghost use Rattle.up_stage.specs.Ready.{AtRest, Ready, rank_at, is_waiting, asked};
 ghost use Rattle.up_stage.specs.Worlds.{OneMore, FollowsOn, ActsOn, ResumesOn, PassesOn};
 ghost use Rattle.up_stage.specs.Lines.{CatchesUp, Does, GoesThrough};
 ghost use Rattle.up_stage.specs.Played.{IsPlayable, IsNew, are_able, is_able_line};
@@ -13,7 +13,7 @@ use std::alloc::Global;
 use std::marker::Model;
 use up_evictor::Levels;
 use up_hands::Hands;
-use up_model::Entries;
+use up_model::{Entries, Reply};
 use up_num::Memory;
 use up_script::{Action, Line, Script};
 use up_worker::{Actor, Heard, Wanted, Wish};
@@ -205,6 +205,7 @@ impl Stage {
         ensures went { IfOk result (λ next. OneMore self.old self.new who wish next) }
     {
         let heard = self.hands.carry_out(alloc, who, wish)?;
+        let _ = asked(&heard);
         match self.actors[who as usize].next(alloc, heard) {
             Ok(next) => Ok(next),
             Err((memory, _)) => Err(memory),
@@ -227,6 +228,17 @@ impl Stage {
         ensures { result ≡ slice_index self.now.done who }
     {
         self.done[who as usize]
+    }
+}
+
+/// How many frames a reply asks for.
+fn asked(heard: &Heard) -> u32
+    ensures value { result ≡ asked heard.now }
+    ensures small { result < 2 ^ 32 }
+{
+    match heard {
+        Heard::Replied(Reply::Needs(count)) => *count,
+        _ => 0,
     }
 }
 
