@@ -16,7 +16,7 @@ use Rattle.up_worker.specs.Calls.{calls_in}
 use Rattle.up_worker.specs.Frames.{Judge, front}
 use Rattle.up_worker.specs.Lives.{Entered, OwnEvicts}
 use Rattle.up_worker.specs.Thread.{exact, culls_of}
-use Rattle.up_steps.specs.Asked.{AreNext, IsDone, AllBring}
+use Rattle.up_steps.specs.Asked.{without_evicts, AreNext, IsDone, AllBring}
 use Rattle.up_steps.specs.Told.{own, last_parks, parked, is_go, given_to, kind_at, objects_at, Told, ToldInPart}
 
 -- What is given: the actors, how many objects there are, the marks of levels, how many ordinary frames are at home after these entries, and how many
@@ -78,8 +78,8 @@ pub record EvictsOne (object limit most : ℕ) (made : List Entered) : Type 0 wh
 -- an evictor's line by calls, all of which are made
 pub record AllMade (s : Setting) (m : Moment) (objects : List ℕ) (action : Action) (start made : List Entered) : Type 0 where
   pub framed : IsFramed s m start made
-  pub next : AreNext (calls_in objects action) false made
-  pub done : IsDone (calls_in objects action) false made
+  pub next : AreNext (calls_in objects action) false (without_evicts made)
+  pub done : IsDone (calls_in objects action) false (without_evicts made)
 
 abbrev pub OneCall : Setting → Moment → List ℕ → ℕ → Call → List Entered → List Entered → Type 0
 OneCall s m objects object (calls.Evict limit most) start made = EvictsOne object limit most made
@@ -96,8 +96,8 @@ Evictors s m objects who action start made = AllMade s m objects action start ma
 
 -- an actor's lines so far are all done, or it is parked in one of them
 abbrev pub IsFar : Setting → List Line → ℕ → Bool → List Entered → Type 0
-IsFar s lines who false now = Told (kind_at s.actors who) (objects_at s.actors who) (given_to who lines) (own who now)
-IsFar s lines who true now = ToldInPart (kind_at s.actors who) (objects_at s.actors who) (given_to who lines) (own who now)
+IsFar s lines who false now = Told (kind_at s.actors who) (objects_at s.actors who) (given_to who lines) (without_evicts (own who now))
+IsFar s lines who true now = ToldInPart (kind_at s.actors who) (objects_at s.actors who) (given_to who lines) (without_evicts (own who now))
 
 -- the block of another actor's line: it goes on with its lines as far as it can
 pub record GoesFar (s : Setting) (m : Moment) (lines : List Line) (who : ℕ) (start made : List Entered) : Type 0 where
