@@ -10,4 +10,5 @@ pub mod Resting
 pub mod Lining
 pub mod Going
 pub mod Following
+pub mod Beginning
 pub mod Rounding
