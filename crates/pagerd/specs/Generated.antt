@@ -1,5 +1,5 @@
 -- The words that ask for a generated script, and the line that tells of its journal.
-use Rattle.std.specs.Prelude.{◌≡◌, ℕ, ◌++◌, Some, ⊥, List, [], ◌∷◌, codes, decimal}
+use Rattle.std.specs.Prelude.{◌≡◌, ℕ, ◌++◌, Some, List, [], ◌∷◌, codes, decimal}
 use Rattle.up_model.specs.declared.entry.Entry.{Entry}
 use Rattle.up_stage.specs.Played.{AreJournalsOf}
 use Rattle.up_stage.specs.Rounds.{generated}

@@ -60,7 +60,7 @@ new_lives : (n : ℕ) (births : List Birth) → map new_life births ≡ lives_fr
 new_lives n [] = refl
 new_lives n (b ∷ bs) = ap (λ ls. new_life b ∷ ls) (new_lives (n + 1) bs)
 
-all_at : {X : Type 0} (test : X → Bool) (xs : List X) (k : ℕ) (x : X) → list_all test xs ≡ true → slice_get xs k ≡ Some x → test x ≡ true
+pub all_at : {X : Type 0} (test : X → Bool) (xs : List X) (k : ℕ) (x : X) → list_all test xs ≡ true → slice_get xs k ≡ Some x → test x ≡ true
 all_at test [] k x all is = absurd cc
 all_at test (y ∷ ys) zero x all is = subst (λ z. test z ≡ true) (some_same y x is) (and_left (test y) (list_all test ys) all)
 all_at test (y ∷ ys) (suc k) x all is = all_at test ys k x (and_right (test y) (list_all test ys) all) is

@@ -11,4 +11,5 @@ pub mod Lining
 pub mod Going
 pub mod Following
 pub mod Beginning
+pub mod Abling
 pub mod Rounding

@@ -1,5 +1,5 @@
 -- What a script's objects and actors keep while one actor's wishes are carried out.
-use Rattle.std.proofs.Common.{◌≡◌, ℕ, ◌+◌, ◌^◌, ◌<◌, ◌==◌, ◌++◌, ◌⊎◌, Bool, true, false, cond, Option, Some, None, List, [], ◌∷◌, length, refl, sym, ap, ◌∙◌, subst, inl, inr, slice_get, slice_set, nat_le, arith}
+use Rattle.std.proofs.Common.{◌≡◌, ℕ, ◌+◌, ◌<◌, ◌==◌, ◌++◌, ◌⊎◌, Bool, true, false, cond, Option, Some, None, List, [], ◌∷◌, length, refl, sym, ap, ◌∙◌, subst, inl, inr, slice_get, slice_set, nat_le, arith}
 use Rattle.std.proofs.lemmas.List.{length-set}
 use Rattle.std.proofs.lemmas.Option.{slice_get_within}
 use Rattle.up_evictor.specs.declared.levels.Levels.{Levels}
@@ -118,7 +118,7 @@ pub record Carried (births : List Birth) (made g : List Entered) (a : Acting) (w
 
 -- few frames are asked for
 abbrev pub AsksFew : Heard → Type 0
-AsksFew answer = (n : ℕ) → answer ≡ heard.Replied (replies.Needs n) → n < 2 ^ 32
+AsksFew answer = (n : ℕ) → answer ≡ heard.Replied (replies.Needs n) → n < 4294967296
 
 abbrev pub AreFit : Acting → Type 0
 AreFit a = (aim : Aim) → under_way a ≡ Some aim → is_fit_call aim.call ≡ true

@@ -1,5 +1,5 @@
 -- What one wish that is carried out makes of its actor: what it wishes next, what is in hand for that, that less is left, and which ticket it holds.
-use Rattle.std.proofs.Common.{◌≡◌, ℕ, ◌+◌, ◌-◌, ◌*◌, ◌^◌, ◌<◌, ◌≤◌, ◌==◌, ◌&&◌, ◌++◌, ◌⊎◌, Bool, true, false, cond, is_some, Option, Some, None, List, [], ◌∷◌, length, refl, sym, ap, ◌∙◌, subst, inl, inr, slice_get, nat_le, nat_lt, arith}
+use Rattle.std.proofs.Common.{◌≡◌, ℕ, ◌+◌, ◌-◌, ◌*◌, ◌<◌, ◌≤◌, ◌==◌, ◌&&◌, ◌++◌, ◌⊎◌, Bool, true, false, cond, is_some, Option, Some, None, List, [], ◌∷◌, length, refl, sym, ap, ◌∙◌, subst, inl, inr, slice_get, nat_le, nat_lt, arith}
 use Rattle.std.proofs.lemmas.Bool.Decides.{nat_tests}
 use Rattle.std.proofs.lemmas.Option.{slice_get_within}
 use Rattle.up_model.specs.Legal.{Life, Legal}
@@ -53,10 +53,10 @@ rank_bound (wishes.Park object) = omega arith
 rank_bound wishes.LineEnd = omega arith
 rank_bound _ = omega arith
 
-lower_settled : (many settled now : ℕ) (next wish : Wish) → settled < many → now ≡ settled + 1 → 2 ≤ rank_of wish → (many - now) * 2 ^ 34 + rank_of next < (many - settled) * 2 ^ 34 + rank_of wish
+lower_settled : (many settled now : ℕ) (next wish : Wish) → settled < many → now ≡ settled + 1 → 2 ≤ rank_of wish → (many - now) * 17179869184 + rank_of next < (many - settled) * 17179869184 + rank_of wish
 lower_settled many settled now next wish below is low = let most = rank_bound next in omega arith
 
-lower_same : (many settled : ℕ) (next wish : Wish) → rank_of next < rank_of wish → (many - settled) * 2 ^ 34 + rank_of next < (many - settled) * 2 ^ 34 + rank_of wish
+lower_same : (many settled : ℕ) (next wish : Wish) → rank_of next < rank_of wish → (many - settled) * 17179869184 + rank_of next < (many - settled) * 17179869184 + rank_of wish
 lower_same many settled next wish below = omega arith
 
 hand_last_of : (action : Action) → hand_for (last_of action) ≡ empty_hand
@@ -142,7 +142,7 @@ no_ticket : (lives : List Life) (a : Acting) (aim : Aim) (ticket : Option ℕ) �
 no_ticket lives a aim None at is lent holds = refl
 no_ticket lives a aim (Some t) at is lent holds = let plain = (holds t aim at is).plain in absurd cc
 
-asks_after : (lives : List Life) (a : Acting) (object : ℕ) (call : Call) (n : ℕ) → Makes a object call → Asks call n → n < 2 ^ 32 → HoldsIts lives a → (aim : Aim) → under_way a ≡ Some aim
+asks_after : (lives : List Life) (a : Acting) (object : ℕ) (call : Call) (n : ℕ) → Makes a object call → Asks call n → n < 4294967296 → HoldsIts lives a → (aim : Aim) → under_way a ≡ Some aim
     → takes_frames (attempt a.ticket aim.call) ≡ true → frames_before (attempt a.ticket aim.call) ≡ 0 → (borrows aim.call ≡ true → n ≡ 1) → (lent : Bool) → borrows aim.call ≡ lent
     → After a (wishes.Act object call) (heard.Replied (replies.Needs n))
 asks_after lives a object call n p asks small holds aim is takes none one true lent =
@@ -154,7 +154,7 @@ asks_after lives a object call n p asks small holds aim is takes none one true l
       pending = subst (λ (w : Wish). Pending (next_acting a (heard.Replied (replies.Needs n))) w) (sym next)
           (record { aim = aim; is = is; free = no_ticket lives a aim a.ticket refl is lent holds; lent = lent });
       hand = sym (ap hand_for next);
-      lower = subst (λ (w : Wish). (length (calls_of a.kind a.objects a.doing) - a.settled) * 2 ^ 34 + rank_of w < rank a (wishes.Act object call)) (sym next)
+      lower = subst (λ (w : Wish). (length (calls_of a.kind a.objects a.doing) - a.settled) * 17179869184 + rank_of w < rank a (wishes.Act object call)) (sym next)
           (lower_same (length (calls_of a.kind a.objects a.doing)) a.settled wishes.Loan (wishes.Act object call) below);
     }
 asks_after lives a object call n p asks small holds aim is takes none one false lent =
@@ -173,12 +173,12 @@ asks_after lives a object call n p asks small holds aim is takes none one false 
             right = λ b brought. right_gathered a.ticket aim.call b none;
           });
       hand = sym (ap hand_for next);
-      lower = subst (λ (w : Wish). (length (calls_of a.kind a.objects a.doing) - a.settled) * 2 ^ 34 + rank_of w < rank a (wishes.Act object call)) (sym next)
+      lower = subst (λ (w : Wish). (length (calls_of a.kind a.objects a.doing) - a.settled) * 17179869184 + rank_of w < rank a (wishes.Act object call)) (sym next)
           (lower_same (length (calls_of a.kind a.objects a.doing)) a.settled (wishes.Gather n) (wishes.Act object call) below);
     }
 
 -- a call that asks for frames
-after_needs : (lives : List Life) (a : Acting) (object : ℕ) (call : Call) (n : ℕ) → Makes a object call → Asks call n → n < 2 ^ 32 → HoldsIts lives a → After a (wishes.Act object call) (heard.Replied (replies.Needs n))
+after_needs : (lives : List Life) (a : Acting) (object : ℕ) (call : Call) (n : ℕ) → Makes a object call → Asks call n → n < 4294967296 → HoldsIts lives a → After a (wishes.Act object call) (heard.Replied (replies.Needs n))
 after_needs lives a object call n p asks small holds =
     let of : call ≡ bringing p.brought (attempt a.ticket p.aim.call) = p.made in
     let takes : takes_frames (attempt a.ticket p.aim.call) ≡ true =
@@ -198,7 +198,7 @@ after_blocked a object call t p =
     record {
       pending = subst (λ (w : Wish). Pending (next_acting a (heard.Replied (replies.Blocked t))) w) (sym next) (record { ticket = t; aim = p.aim; holds = refl; is = p.is });
       hand = sym (ap hand_for next);
-      lower = subst (λ (w : Wish). (length (calls_of a.kind a.objects a.doing) - a.settled) * 2 ^ 34 + rank_of w < rank a (wishes.Act object call)) (sym next)
+      lower = subst (λ (w : Wish). (length (calls_of a.kind a.objects a.doing) - a.settled) * 17179869184 + rank_of w < rank a (wishes.Act object call)) (sym next)
           (lower_same (length (calls_of a.kind a.objects a.doing)) a.settled (wishes.Park p.aim.object) (wishes.Act object call) below);
     }
 
@@ -221,14 +221,14 @@ after_waiting a object call p t held =
     record {
       pending = subst (λ (w : Wish). Pending (next_acting a (heard.Replied replies.Waiting)) w) (sym next) (record { ticket = t; aim = p.aim; holds = held; is = p.is });
       hand = sym (ap hand_for next);
-      lower = subst (λ (w : Wish). (length (calls_of a.kind a.objects a.doing) - a.settled) * 2 ^ 34 + rank_of w < rank a (wishes.Act object call)) (sym next)
+      lower = subst (λ (w : Wish). (length (calls_of a.kind a.objects a.doing) - a.settled) * 17179869184 + rank_of w < rank a (wishes.Act object call)) (sym next)
           (lower_same (length (calls_of a.kind a.objects a.doing)) a.settled (wishes.Park p.aim.object) (wishes.Act object call) below);
     }
 
 -- what is known of a reply to a call
 pub record Answered (call : Call) (r : Reply) : Type 0 where
   pub asks : (n : ℕ) → r ≡ replies.Needs n → Asks call n
-  pub small : (n : ℕ) → r ≡ replies.Needs n → n < 2 ^ 32
+  pub small : (n : ℕ) → r ≡ replies.Needs n → n < 4294967296
   pub waits : r ≡ replies.Waiting → is_retry call ≡ true
 
 pub after_act : (lives : List Life) (a : Acting) (object : ℕ) (call : Call) (r : Reply) → Makes a object call → Answered call r → HoldsIts lives a
@@ -256,7 +256,7 @@ hand_taken object (calls.Borrow page old) b takes = refl
 hand_taken object (calls.Vacate old) b takes = refl
 hand_taken object _ b takes = absurd cc
 
-rank_taken : (object : ℕ) (call : Call) (b : Brought) → takes_frames call ≡ true → rank_of (act_on object (bringing b call)) ≡ 2 * (2 ^ 32 - weight (Some b)) + 2
+rank_taken : (object : ℕ) (call : Call) (b : Brought) → takes_frames call ≡ true → rank_of (act_on object (bringing b call)) ≡ 2 * (4294967296 - weight (Some b)) + 2
 rank_taken object (calls.Read piece last old) b takes = refl
 rank_taken object (calls.Write off bytes last old) b takes = refl
 rank_taken object (calls.Retry ticket old) b takes = refl
@@ -271,7 +271,7 @@ hand_of : (lent : Bool) (count : ℕ) (b : Brought) → (b ≡ Frames count) ⊎
 hand_of lent count b (inl is) = rw is refl
 hand_of lent count b (inr is) = rw is refl
 
-lighter : (count : ℕ) (b : Brought) → (b ≡ Frames count) ⊎ (b ≡ Scanned) → 2 * (2 ^ 32 - weight (Some b)) + 2 < 2 * (2 ^ 32 - count) + 3
+lighter : (count : ℕ) (b : Brought) → (b ≡ Frames count) ⊎ (b ≡ Scanned) → 2 * (4294967296 - weight (Some b)) + 2 < 2 * (4294967296 - count) + 3
 lighter count b (inl is) = rw is (omega arith)
 lighter count b (inr is) = rw is (omega arith)
 
@@ -282,7 +282,7 @@ after_gather a count b p is =
       pending = pending_makes (next_acting a (heard.Brought b)) p.aim b p.is (brought_counts count b p.some is) (p.right b is);
       hand = hand_of false count b is ∙ ap (λ lent. brings_as lent (Some b)) (sym p.plain) ∙ sym (hand_taken p.aim.object (attempt a.ticket p.aim.call) b p.takes) ∙ sym (ap hand_for next);
       lower = let light = lighter count b is in let ranks = rank_taken p.aim.object (attempt a.ticket p.aim.call) b p.takes in
-          subst (λ (w : Wish). (length (calls_of a.kind a.objects a.doing) - a.settled) * 2 ^ 34 + rank_of w < rank a (wishes.Gather count)) (sym next)
+          subst (λ (w : Wish). (length (calls_of a.kind a.objects a.doing) - a.settled) * 17179869184 + rank_of w < rank a (wishes.Gather count)) (sym next)
           (lower_same (length (calls_of a.kind a.objects a.doing)) a.settled (act_on p.aim.object (bringing b (attempt a.ticket p.aim.call))) (wishes.Gather count) (rw ranks light));
     }
 
@@ -300,7 +300,7 @@ after_loan a b p is =
           (subst (λ (t : Option ℕ). IsRightFor t p.aim.call b) (sym p.free) (inl kind.1));
       hand = hand_of true 1 b is ∙ ap (λ lent. brings_as lent (Some b)) (sym p.lent) ∙ sym (hand_taken p.aim.object p.aim.call b kind.0) ∙ sym (ap hand_for next);
       lower = let light = lighter 1 b is in let ranks = rank_taken p.aim.object p.aim.call b kind.0 in
-          subst (λ (w : Wish). (length (calls_of a.kind a.objects a.doing) - a.settled) * 2 ^ 34 + rank_of w < rank a wishes.Loan) (sym next)
+          subst (λ (w : Wish). (length (calls_of a.kind a.objects a.doing) - a.settled) * 17179869184 + rank_of w < rank a wishes.Loan) (sym next)
           (lower_same (length (calls_of a.kind a.objects a.doing)) a.settled (act_on p.aim.object (bringing b p.aim.call)) wishes.Loan (rw ranks light));
     }
 
@@ -318,6 +318,6 @@ after_done a wish none hand some =
     record {
       pending = subst (λ (w : Wish). Pending (next_acting a heard.Done) w) (sym next) none;
       hand = hand ∙ sym (ap hand_for next);
-      lower = subst (λ (w : Wish). (length (calls_of a.kind a.objects a.doing) - a.settled) * 2 ^ 34 + rank_of w < rank a wish) (sym next)
+      lower = subst (λ (w : Wish). (length (calls_of a.kind a.objects a.doing) - a.settled) * 17179869184 + rank_of w < rank a wish) (sym next)
           (lower_same (length (calls_of a.kind a.objects a.doing)) a.settled wishes.LineEnd wish some);
     }

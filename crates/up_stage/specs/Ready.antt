@@ -1,5 +1,5 @@
 -- What holds of a script's objects and actors while one of them wishes something, and while all rest.
-use Rattle.std.specs.Prelude.{◌≡◌, ℕ, ◌+◌, ◌-◌, ◌*◌, ◌^◌, ◌<◌, ◌≤◌, ◌==◌, ◌⊎◌, Bool, true, false, cond, is_some, Option, Some, None, Unit, ⊥, List, length, slice_get}
+use Rattle.std.specs.Prelude.{◌≡◌, ℕ, ◌+◌, ◌-◌, ◌*◌, ◌<◌, ◌≤◌, ◌==◌, ◌⊎◌, Bool, true, false, cond, is_some, Option, Some, None, List, length, slice_get}
 use Rattle.up_model.specs.Legal.{Life}
 use Rattle.up_model.specs.Reply.{counts_frames}
 use Rattle.up_model.specs.Tickets.{owner, spent}
@@ -123,20 +123,20 @@ pub record Ready (s : Staged) (who : ℕ) (wish : Wish) : Type 0 where
 -- how much an actor may still wish in what it does: the more calls are left, and the fewer frames were brought to the next one, the more
 abbrev pub weight : Option Brought → ℕ
 weight (Some (Frames count)) = count
-weight (Some Scanned) = 2 ^ 32
+weight (Some Scanned) = 4294967296
 weight _ = 0
 
 abbrev pub rank_of : Wish → ℕ
-rank_of (wishes.Act object call) = 2 * (2 ^ 32 - weight (brought_in call)) + 2
+rank_of (wishes.Act object call) = 2 * (4294967296 - weight (brought_in call)) + 2
 rank_of (wishes.Resize object pages) = 2
-rank_of (wishes.Gather count) = 2 * (2 ^ 32 - count) + 3
-rank_of wishes.Loan = 2 * (2 ^ 32 - 1) + 3
+rank_of (wishes.Gather count) = 2 * (4294967296 - count) + 3
+rank_of wishes.Loan = 2 * (4294967296 - 1) + 3
 rank_of (wishes.Park object) = 0
 rank_of wishes.LineEnd = 0
 rank_of _ = 1
 
 abbrev pub rank : Acting → Wish → ℕ
-rank a wish = (length (calls_of a.kind a.objects a.doing) - a.settled) * 2 ^ 34 + rank_of wish
+rank a wish = (length (calls_of a.kind a.objects a.doing) - a.settled) * 17179869184 + rank_of wish
 
 -- the rank of an actor of the stage; of none it is 0
 abbrev pub rank_in : Option Acting → Wish → ℕ

@@ -1,4 +1,4 @@
-ghost use Rattle.std.specs.Prelude.{◌≡◌, ◌≤◌, ◌<◌, ◌^◌, true, false, length, slice_get, slice_index, slice_set, Some, IfOk, OnOk};
+ghost use Rattle.std.specs.Prelude.{◌≡◌, ◌≤◌, ◌<◌, true, false, length, slice_get, slice_index, slice_set, Some, IfOk, OnOk};
 ghost use Rattle.up_hands.specs.Handed.{ends_of, AllLegal};
 ghost use Rattle.up_steps.specs.Told as told;
 ghost use Rattle.up_steps.specs.World as world;
@@ -234,7 +234,7 @@ impl Stage {
 /// How many frames a reply asks for.
 fn asked(heard: &Heard) -> u32
     ensures value { result ≡ asked heard.now }
-    ensures small { result < 2 ^ 32 }
+    ensures small { result < 4294967296 }
 {
     match heard {
         Heard::Replied(Reply::Needs(count)) => *count,

@@ -1,4 +1,4 @@
-ghost use Rattle.std.specs.Prelude.{◌≡◌, ◌<◌, ◌^◌, ◌&&◌, ◌≤◌};
+ghost use Rattle.std.specs.Prelude.{◌≡◌, ◌<◌, ◌&&◌};
 ghost use Rattle.up_stage.specs.Summing.{gives_bytes, is_write, is_done, pages_taken, pages_evicted, first_byte, summary_of};
 
 use up_model::{Call, Entry, Reply};
@@ -71,7 +71,7 @@ fn pages_taken(reply: &Reply) -> u32
 
 fn pages_evicted(reply: &Reply) -> u64
     ensures value { result ≡ pages_evicted reply.now }
-    ensures bound { result < 2 ^ 63 }
+    ensures bound { result < 9223372036854775808 }
 {
     match reply {
         Reply::Pages(pages) => pages.len() as u64,

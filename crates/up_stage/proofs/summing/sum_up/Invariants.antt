@@ -1,4 +1,4 @@
-use Rattle.std.proofs.Common.{◌≡◌, ◌≤◌, ◌*◌, ◌^◌, take}
+use Rattle.std.proofs.Common.{◌≡◌, ◌≤◌, ◌*◌, take}
 use Rattle.std.specs.List.{count_by, sum_by}
 use Rattle.up_stage.specs.Summing.{gives_bytes, is_write_done, pages_taken, pages_evicted, first_byte}
 use Rattle.up_stage.proofs.summing.sum_up.Given as goal
@@ -12,7 +12,7 @@ invariant-loop-entry l = record {
   sum : l.sum ≡ sum_by (λ entry. first_byte entry.reply) (take l.entry-index l.entries);
   few_reads : l.reads ≤ l.entry-index;
   few_writes : l.writes ≤ l.entry-index;
-  few_took : l.took ≤ l.entry-index * 2 ^ 32;
-  few_evicted : l.evicted ≤ l.entry-index * 2 ^ 63;
+  few_took : l.took ≤ l.entry-index * 4294967296;
+  few_evicted : l.evicted ≤ l.entry-index * 9223372036854775808;
   few_sum : l.sum ≤ l.entry-index * 256;
 }
