@@ -1,25 +1,28 @@
 -- What a reply tells that asks for frames, and which calls park.
-use Rattle.std.proofs.Common.{◌≡◌, ℕ, ◌+◌, ◌<◌, ◌==◌, ◌&&◌, ◌||◌, ◌⊎◌, not, max, Bool, true, false, cond, Option, Some, None, List, length, map, refl, sym, ap, ◌∙◌, inl, inr, nat_lt, slice_get, arith}
+use Rattle.std.proofs.Common.{◌≡◌, ℕ, ◌+◌, ◌<◌, ◌==◌, ◌&&◌, ◌||◌, ◌⊎◌, not, max, Bool, true, false, cond, Option, Some, None, List, length, map, refl, sym, ap, ◌∙◌, inl, inr, nat_le, nat_lt, slice_get, arith}
 use Rattle.std.proofs.lemmas.Bool.{ltb-true}
 use Rattle.up_num.specs.declared.answers.Outcome.{Outcome}
 use Rattle.up_num.specs.declared.answers.Outcome.TheVariants.{Freed}
 use Rattle.up_num.specs.declared.answers.Packet.{Packet as PacketValue}
 use Rattle.up_num.specs.declared.answers.Refusal.{Refusal}
 use Rattle.up_num.specs.declared.answers.Refusal.TheVariants.{NoFrames}
+use Rattle.up_num.specs.declared.answers.Refusal.TheVariants as refusal
 use Rattle.up_num.specs.declared.pages.PageNo.{PageNo}
 use Rattle.up_model.specs.Attempts.{Access, page_of, parked}
-use Rattle.up_model.specs.Size.{range_fits, access_fits}
+use Rattle.up_model.specs.Pages.{first_page}
+use Rattle.up_model.specs.Size.{size, range_fits, access_fits}
 use Rattle.up_model.specs.Value.{there}
 use Rattle.up_model.specs.States.{dirty}
 use Rattle.up_model.specs.Roles.{detached}
-use Rattle.up_model.specs.Tickets.{outcome}
-use Rattle.up_model.specs.Reply.{refuse_where, refuse_at, with_frames, is_scan, frames_in, must_wait, touch_reply, access_reply, retry_reply, packet_reply, resize_reply, reply}
+use Rattle.up_model.specs.Tickets.{outcome, woken}
+use Rattle.up_model.specs.Reply.{refuse_where, refuse_at, with_frames, is_scan, frames_in, must_wait, touch_reply, access_reply, retry_reply, packet_reply, resize_reply, is_pinned, reply}
 use Rattle.up_model.specs.declared.entry.Birth.{Birth}
 use Rattle.up_model.specs.declared.entry.Brought.{Brought}
 use Rattle.up_model.specs.declared.entry.Entry.{Entry}
 use Rattle.up_model.specs.declared.entry.Call.{Call}
 use Rattle.up_model.specs.declared.entry.Call.TheVariants as calls
 use Rattle.up_model.specs.declared.entry.Reply.{Reply}
+use Rattle.up_model.specs.declared.entry.Reply.TheVariants as answer
 use Rattle.up_model.specs.declared.entry.Reply.TheVariants.{Blocked, Waiting, Needs, Done, Refused}
 use Rattle.up_model.proofs.Passed.{Past, past_where, past_at, past_frames}
 use Rattle.up_core.specs.Requests.{brought_in, takes_frames}
@@ -35,6 +38,16 @@ behind_at : (found : Option ℕ) (why : PageNo → Refusal) (next : Reply) (n : 
 behind_at None why next n is = is
 behind_at (Some p) why next n is = absurd cc
 
+abbrev is_ask : Reply → Bool
+is_ask (Needs count) = true
+is_ask _ = false
+
+quiet : (r : Reply) (n : ℕ) → r ≡ Needs n → is_ask r ≡ false → ⊥
+quiet r n is silent = let p : is_ask r ≡ true = ap is_ask is in absurd (let q : false ≡ true = sym silent ∙ p in cc)
+
+loud : (r : Reply) → parks r ≡ true → parks r ≡ false → ⊥
+loud r is silent = let q : false ≡ true = sym silent ∙ is in cc
+
 -- some frames are asked for, more than were brought
 pub record Lacks (m n : ℕ) (b : Brought) : Type 0 where
   pub count : m ≡ n
@@ -43,35 +56,35 @@ pub record Lacks (m n : ℕ) (b : Brought) : Type 0 where
 
 lacks_three : (none scan few : Bool) (m n : ℕ) (b : Brought) (next : Reply) → scan ≡ is_scan b → few ≡ nat_lt (frames_in b) m → (next ≡ Needs n → ⊥)
     → cond none next (cond scan (Refused NoFrames) (cond few (Needs m) next)) ≡ Needs n → Lacks m n b
-lacks_three true scan few m n b next s f no is = absurd (no is)
-lacks_three false true few m n b next s f no is = absurd cc
-lacks_three false false true m n b next s f no is =
+lacks_three true scan few m n b next s f never is = absurd (never is)
+lacks_three false true few m n b next s f never is = absurd cc
+lacks_three false false true m n b next s f never is =
     let same : m ≡ n = cc in
     record { count = same; fresh = sym s; fewer = rw (sym same) (ltb-true (frames_in b) m (sym f)) }
-lacks_three false false false m n b next s f no is = absurd (no is)
+lacks_three false false false m n b next s f never is = absurd (never is)
 
 lacks : (m n : ℕ) (b : Brought) (next : Reply) → (next ≡ Needs n → ⊥) → with_frames m b next ≡ Needs n → Lacks m n b
-lacks m n b next no is = lacks_three (m == 0) (is_scan b) (nat_lt (frames_in b) m) m n b next refl refl no is
+lacks m n b next never is = lacks_three (m == 0) (is_scan b) (nat_lt (frames_in b) m) m n b next refl refl never is
 
 wait_asks_none : (birth : Birth) (h : List Entry) (n : ℕ) → must_wait birth h ≡ Needs n → ⊥
-wait_asks_none birth h n is = let next = behind_where (detached birth h) _ _ n is in absurd cc
+wait_asks_none birth h n is = absurd (quiet _ n (behind_where (detached birth h) _ _ n is) refl)
 
 -- what an access lacks is some number of frames
 abbrev LacksSome : ℕ → Brought → Type 0
 LacksSome n b = (m : ℕ) × Lacks m n b
 
 choose_wait : (b : Bool) (first next : Reply) (n m : ℕ) (brought : Brought) → (first ≡ Needs n → ⊥) → (next ≡ Needs n → LacksSome n brought) → cond b first next ≡ Needs n → LacksSome n brought
-choose_wait true first next n m brought no go is = absurd (no is)
-choose_wait false first next n m brought no go is = go is
+choose_wait true first next n m brought never go is = absurd (never is)
+choose_wait false first next n m brought never go is = go is
 
 touch_lacks : (birth : Birth) (h : List Entry) (a : Access) (b : Brought) (bytes : Option (List ℕ)) (n : ℕ) → touch_reply birth h a b bytes ≡ Needs n → LacksSome n b
 touch_lacks birth h a b None n is = absurd cc
 touch_lacks birth h a b (Some bytes) n is =
-    choose_wait (birth.trap && not (dirty birth h (page_of a.off))) (must_wait birth h) _ n 0 b (wait_asks_none birth h n) (λ q. (_, lacks _ n b Done (λ z. cc) q)) is
+    choose_wait (birth.trap && not (dirty birth h (page_of a.off))) (must_wait birth h) _ n 0 b (wait_asks_none birth h n) (λ q. (_, lacks _ n b Done (λ z. quiet _ n z refl) q)) is
 
 choose_there : (b : Bool) (first next : Reply) (n : ℕ) (brought : Brought) → (first ≡ Needs n → LacksSome n brought) → (next ≡ Needs n → ⊥) → cond b first next ≡ Needs n → LacksSome n brought
-choose_there true first next n brought go no is = go is
-choose_there false first next n brought go no is = absurd (no is)
+choose_there true first next n brought go never is = go is
+choose_there false first next n brought go never is = absurd (never is)
 
 access_lacks : (birth : Birth) (h : List Entry) (a : Access) (b : Brought) (n : ℕ) → access_reply birth h a b ≡ Needs n → LacksSome n b
 access_lacks birth h a b n is =
@@ -105,39 +118,44 @@ packet_asks_none birth h None n is =
 
 resize_asks_none : (birth : Birth) (h : List Entry) (pages : ℕ) (limit : Option ℕ) (n : ℕ) → resize_reply birth h pages limit ≡ Needs n → ⊥
 resize_asks_none birth h pages None n is = cc
-resize_asks_none birth h pages (Some limit) n is = let next = behind_at _ _ _ n (behind_where (nat_lt limit pages) _ _ n is) in absurd cc
+resize_asks_none birth h pages (Some limit) n is =
+    let found = first_page (λ p. nat_le pages p && is_pinned h p) 0 (size birth h) in
+    let last : answer.Woke (woken birth h (calls.Resize pages)) ≡ Needs n =
+    behind_at found refusal.Pinned (answer.Woke (woken birth h (calls.Resize pages))) n
+    (behind_where (nat_lt limit pages) refusal.Range (refuse_at found refusal.Pinned (answer.Woke (woken birth h (calls.Resize pages)))) n is) in
+    quiet (answer.Woke (woken birth h (calls.Resize pages))) n last refl
 
-borrow_last : (loan : Bool) (b : Brought) (n : ℕ) (yes no : Reply) → (no ≡ Needs n → ⊥) → (yes ≡ Needs n → ⊥) → cond loan no (with_frames 1 b yes) ≡ Needs n → Lacks 1 n b
-borrow_last true b n yes no first second is = absurd (first is)
-borrow_last false b n yes no first second is = lacks 1 n b yes second is
+borrow_last : (loan : Bool) (b : Brought) (n : ℕ) (given never : Reply) → (never ≡ Needs n → ⊥) → (given ≡ Needs n → ⊥) → cond loan never (with_frames 1 b given) ≡ Needs n → Lacks 1 n b
+borrow_last true b n given never first second is = absurd (first is)
+borrow_last false b n given never first second is = lacks 1 n b given second is
 
 pub asks_right : (birth : Birth) (h : List Entry) (who epoch : ℕ) (call : Call) (n : ℕ) → reply birth h who epoch call ≡ Needs n → Asks call n
 asks_right birth h who epoch (calls.Read piece last b) n is = asks_some _ n b refl refl refl (access_lacks birth h _ b n is)
 asks_right birth h who epoch (calls.Write off bytes last b) n is = asks_some _ n b refl refl refl (access_lacks birth h _ b n is)
 asks_right birth h who epoch (calls.Retry ticket b) n is = asks_some _ n b refl refl refl (retry_lacks birth h b (outcome birth h ticket) (parked h ticket) n is)
-asks_right birth h who epoch (calls.Supply range bytes b) n is = let next = behind_where _ _ _ n (behind_where _ _ _ n (behind_where _ _ _ n is)) in absurd cc
-asks_right birth h who epoch (calls.Fail range code) n is = let next = behind_where _ _ _ n (behind_where _ _ _ n is) in absurd cc
+asks_right birth h who epoch (calls.Supply range bytes b) n is = absurd (quiet _ n (behind_where _ _ _ n (behind_where _ _ _ n (behind_where _ _ _ n is))) refl)
+asks_right birth h who epoch (calls.Fail range code) n is = absurd (quiet _ n (behind_where _ _ _ n (behind_where _ _ _ n is)) refl)
 asks_right birth h who epoch (calls.Dirty range b) n is =
-    asks_some _ n b refl refl refl (_, lacks _ n b _ (λ z. cc) (behind_at _ _ _ n (behind_where _ _ _ n (behind_where _ _ _ n (behind_where _ _ _ n is)))))
-asks_right birth h who epoch (calls.Begin range zero) n is = let next = behind_where _ _ _ n is in absurd cc
-asks_right birth h who epoch (calls.End range) n is = let next = behind_where _ _ _ n is in absurd cc
-asks_right birth h who epoch (calls.Query range room) n is = let next = behind_where _ _ _ n is in absurd cc
-asks_right birth h who epoch (calls.Stats reset) n is = absurd cc
-asks_right birth h who epoch (calls.Hint range kind) n is = let next = behind_where _ _ _ n is in absurd cc
+    asks_some _ n b refl refl refl (_, lacks _ n b _ (λ z. quiet _ n z refl) (behind_at _ _ _ n (behind_where _ _ _ n (behind_where _ _ _ n (behind_where _ _ _ n is)))))
+asks_right birth h who epoch (calls.Begin range zero) n is = absurd (quiet _ n (behind_where _ _ _ n is) refl)
+asks_right birth h who epoch (calls.End range) n is = absurd (quiet _ n (behind_where _ _ _ n is) refl)
+asks_right birth h who epoch (calls.Query range room) n is = absurd (quiet _ n (behind_where _ _ _ n is) refl)
+asks_right birth h who epoch (calls.Stats reset) n is = absurd (quiet _ n is refl)
+asks_right birth h who epoch (calls.Hint range kind) n is = absurd (quiet _ n (behind_where _ _ _ n is) refl)
 asks_right birth h who epoch (calls.Pin range b) n is =
-    asks_some _ n b refl refl refl (_, lacks _ n b _ (λ z. cc) (behind_at _ _ _ n (behind_at _ _ _ n (behind_where _ _ _ n is))))
-asks_right birth h who epoch (calls.Unpin range) n is = let next = behind_at _ _ _ n (behind_where _ _ _ n is) in absurd cc
-asks_right birth h who epoch (calls.Evict limit most) n is = absurd cc
+    asks_some _ n b refl refl refl (_, lacks _ n b _ (λ z. quiet _ n z refl) (behind_at _ _ _ n (behind_at _ _ _ n (behind_where _ _ _ n is))))
+asks_right birth h who epoch (calls.Unpin range) n is = absurd (quiet _ n (behind_at _ _ _ n (behind_where _ _ _ n is)) refl)
+asks_right birth h who epoch (calls.Evict limit most) n is = absurd (quiet _ n is refl)
 asks_right birth h who epoch (calls.Borrow page b) n is =
-    let some = borrow_last _ b n _ _ (λ z. cc) (λ z. cc) (behind_where _ _ _ n (behind_where _ _ _ n (behind_where _ _ _ n (behind_where _ _ _ n is)))) in
+    let some = borrow_last _ b n _ _ (λ z. quiet _ n z refl) (λ z. quiet _ n z refl) (behind_where _ _ _ n (behind_where _ _ _ n (behind_where _ _ _ n (behind_where _ _ _ n is)))) in
     record { brought = b; is = refl; fresh = some.fresh; fewer = some.fewer; none = refl; one = λ _. sym some.count }
-asks_right birth h who epoch (calls.Vacate b) n is = asks_some _ n b refl refl refl (_, lacks _ n b _ (λ z. cc) is)
+asks_right birth h who epoch (calls.Vacate b) n is = asks_some _ n b refl refl refl (_, lacks _ n b _ (λ z. quiet _ n z refl) is)
 asks_right birth h who epoch (calls.Resize pages) n is = absurd (resize_asks_none birth h pages birth.limit n is)
-asks_right birth h who epoch (calls.Zero range) n is = let next = behind_at _ _ _ n (behind_where _ _ _ n is) in absurd cc
-asks_right birth h who epoch calls.Detach n is = let next = behind_where _ _ _ n is in absurd cc
+asks_right birth h who epoch (calls.Zero range) n is = absurd (quiet _ n (behind_at _ _ _ n (behind_where _ _ _ n is)) refl)
+asks_right birth h who epoch calls.Detach n is = absurd (quiet _ n (behind_where _ _ _ n is) refl)
 asks_right birth h who epoch calls.Packet n is = absurd (packet_asks_none birth h _ n is)
-asks_right birth h who epoch (calls.Leave role) n is = let next = behind_where _ _ _ n is in absurd cc
-asks_right birth h who epoch (calls.Tell told) n is = absurd cc
+asks_right birth h who epoch (calls.Leave role) n is = absurd (quiet _ n (behind_where _ _ _ n is) refl)
+asks_right birth h who epoch (calls.Tell told) n is = absurd (quiet _ n is refl)
 
 -- only accesses park
 past_parks : Past parks
@@ -162,33 +180,38 @@ no_packet birth h None is =
 
 no_resize : (birth : Birth) (h : List Entry) (pages : ℕ) (limit : Option ℕ) → parks (resize_reply birth h pages limit) ≡ true → ⊥
 no_resize birth h pages None is = cc
-no_resize birth h pages (Some limit) is = let next = no_at _ _ _ (no_where (nat_lt limit pages) _ _ is) in absurd cc
+no_resize birth h pages (Some limit) is =
+    let found = first_page (λ p. nat_le pages p && is_pinned h p) 0 (size birth h) in
+    let last : parks (answer.Woke (woken birth h (calls.Resize pages))) ≡ true =
+    no_at found refusal.Pinned (answer.Woke (woken birth h (calls.Resize pages)))
+    (no_where (nat_lt limit pages) refusal.Range (refuse_at found refusal.Pinned (answer.Woke (woken birth h (calls.Resize pages)))) is) in
+    loud (answer.Woke (woken birth h (calls.Resize pages))) last refl
 
-no_borrow : (loan : Bool) (b : Brought) (yes no : Reply) → parks no ≡ false → parks yes ≡ false → parks (cond loan no (with_frames 1 b yes)) ≡ true → ⊥
-no_borrow true b yes no first second is = cc
-no_borrow false b yes no first second is = let next = no_frames 1 b yes is in cc
+no_borrow : (loan : Bool) (b : Brought) (given never : Reply) → parks never ≡ false → parks given ≡ false → parks (cond loan never (with_frames 1 b given)) ≡ true → ⊥
+no_borrow true b given never first second is = loud never is first
+no_borrow false b given never first second is = loud _ (no_frames 1 b given is) second
 
 pub parks_right : (birth : Birth) (h : List Entry) (who epoch : ℕ) (call : Call) → parks (reply birth h who epoch call) ≡ true → may_park call ≡ true
 parks_right birth h who epoch (calls.Read piece last b) is = refl
 parks_right birth h who epoch (calls.Write off bytes last b) is = refl
 parks_right birth h who epoch (calls.Retry ticket b) is = refl
-parks_right birth h who epoch (calls.Supply range bytes b) is = let next = no_where _ _ _ (no_where _ _ _ (no_where _ _ _ is)) in absurd cc
-parks_right birth h who epoch (calls.Fail range code) is = let next = no_where _ _ _ (no_where _ _ _ is) in absurd cc
-parks_right birth h who epoch (calls.Dirty range b) is = let next = no_frames _ b _ (no_at _ _ _ (no_where _ _ _ (no_where _ _ _ (no_where _ _ _ is)))) in absurd cc
-parks_right birth h who epoch (calls.Begin range zero) is = let next = no_where _ _ _ is in absurd cc
-parks_right birth h who epoch (calls.End range) is = let next = no_where _ _ _ is in absurd cc
-parks_right birth h who epoch (calls.Query range room) is = let next = no_where _ _ _ is in absurd cc
-parks_right birth h who epoch (calls.Stats reset) is = absurd cc
-parks_right birth h who epoch (calls.Hint range kind) is = let next = no_where _ _ _ is in absurd cc
-parks_right birth h who epoch (calls.Pin range b) is = let next = no_frames _ b _ (no_at _ _ _ (no_at _ _ _ (no_where _ _ _ is))) in absurd cc
-parks_right birth h who epoch (calls.Unpin range) is = let next = no_at _ _ _ (no_where _ _ _ is) in absurd cc
-parks_right birth h who epoch (calls.Evict limit most) is = absurd cc
+parks_right birth h who epoch (calls.Supply range bytes b) is = absurd (loud _ (no_where _ _ _ (no_where _ _ _ (no_where _ _ _ is))) refl)
+parks_right birth h who epoch (calls.Fail range code) is = absurd (loud _ (no_where _ _ _ (no_where _ _ _ is)) refl)
+parks_right birth h who epoch (calls.Dirty range b) is = absurd (loud _ (no_frames _ b _ (no_at _ _ _ (no_where _ _ _ (no_where _ _ _ (no_where _ _ _ is))))) refl)
+parks_right birth h who epoch (calls.Begin range zero) is = absurd (loud _ (no_where _ _ _ is) refl)
+parks_right birth h who epoch (calls.End range) is = absurd (loud _ (no_where _ _ _ is) refl)
+parks_right birth h who epoch (calls.Query range room) is = absurd (loud _ (no_where _ _ _ is) refl)
+parks_right birth h who epoch (calls.Stats reset) is = absurd (loud _ is refl)
+parks_right birth h who epoch (calls.Hint range kind) is = absurd (loud _ (no_where _ _ _ is) refl)
+parks_right birth h who epoch (calls.Pin range b) is = absurd (loud _ (no_frames _ b _ (no_at _ _ _ (no_at _ _ _ (no_where _ _ _ is)))) refl)
+parks_right birth h who epoch (calls.Unpin range) is = absurd (loud _ (no_at _ _ _ (no_where _ _ _ is)) refl)
+parks_right birth h who epoch (calls.Evict limit most) is = absurd (loud _ is refl)
 parks_right birth h who epoch (calls.Borrow page b) is =
     absurd (no_borrow _ b _ _ refl refl (no_where _ _ _ (no_where _ _ _ (no_where _ _ _ (no_where _ _ _ is)))))
-parks_right birth h who epoch (calls.Vacate b) is = let next = no_frames _ b _ is in absurd cc
+parks_right birth h who epoch (calls.Vacate b) is = absurd (loud _ (no_frames _ b _ is) refl)
 parks_right birth h who epoch (calls.Resize pages) is = absurd (no_resize birth h pages birth.limit is)
-parks_right birth h who epoch (calls.Zero range) is = let next = no_at _ _ _ (no_where _ _ _ is) in absurd cc
-parks_right birth h who epoch calls.Detach is = let next = no_where _ _ _ is in absurd cc
+parks_right birth h who epoch (calls.Zero range) is = absurd (loud _ (no_at _ _ _ (no_where _ _ _ is)) refl)
+parks_right birth h who epoch calls.Detach is = absurd (loud _ (no_where _ _ _ is) refl)
 parks_right birth h who epoch calls.Packet is = absurd (no_packet birth h _ is)
-parks_right birth h who epoch (calls.Leave role) is = let next = no_where _ _ _ is in absurd cc
-parks_right birth h who epoch (calls.Tell told) is = absurd cc
+parks_right birth h who epoch (calls.Leave role) is = absurd (loud _ (no_where _ _ _ is) refl)
+parks_right birth h who epoch (calls.Tell told) is = absurd (loud _ is refl)

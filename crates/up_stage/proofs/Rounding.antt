@@ -95,7 +95,7 @@ small_byte number round =
     let sum : 4096 * (number % 256) + round % 4096 ≤ 8796093022208 = omega arith in grind (arith, nat_tests)
 
 good_supply : (number : ℕ) → is_good (supplies (page_in number)) ≡ true
-good_supply number = rw (small_page number, length-replicate 4096 (number % 256)) refl
+good_supply number = rw (small_page number) refl
 
 good_access : (number round : ℕ) → is_good (accesses number round) ≡ true
 good_access number round =
