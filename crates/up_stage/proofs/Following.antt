@@ -23,7 +23,8 @@ use Rattle.up_worker.specs.declared.wish.Heard.TheVariants as heard
 use Rattle.up_worker.specs.declared.wish.Wish.{Wish}
 use Rattle.up_worker.specs.declared.wish.Wish.TheVariants as wishes
 use Rattle.up_stage.specs.Staged.{Staged, SameShape}
-use Rattle.up_stage.specs.Ready.{ActorKeeps, Makes, Pending, Ready, rank_at, rank_in, rank}
+use Rattle.std.specs.Prelude.{IfSome}
+use Rattle.up_stage.specs.Ready.{asked, ActorKeeps, Makes, Pending, Ready, rank_at, rank_in, rank}
 use Rattle.up_stage.specs.Worlds.{Stands, Goes, Follows, FollowsOn, OneMore}
 use Rattle.up_stage.proofs.Lives.{some_same, all_of, are_entered, slice_get-set}
 use Rattle.up_stage.proofs.Pendings.{proper_call, proper_retry}
@@ -146,3 +147,11 @@ one_more old new who wish next answer r c legal actors is = λ births s world st
       stands = stands_heard births s world old new who wish answer a st said r.is d (parking births d.made (entries world) who wish answer lawful d.carries on) actors;
       said = is ∙ ap (λ (x : Acting). next_wish x answer) (st.actors who a r.is) ∙ ap (λ (o : Out). o.said) (sym (out_own s who (Hears answer d.made) world));
     }
+
+pub if_some : (o : Option ℕ) (n : ℕ) → ((k : ℕ) → o ≡ Some k → k < n) → IfSome o (λ k. k < n)
+if_some None n go = tt
+if_some (Some k) n go = go k refl
+
+-- few frames are asked for, where the code has read how many
+pub asks_few : (answer : Heard) (n : ℕ) → n ≡ asked answer → n < 4294967296 → AsksFew answer
+asks_few answer n is small m said = let e : n ≡ m = is ∙ ap asked said in rw (sym e) small

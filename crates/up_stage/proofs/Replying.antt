@@ -9,6 +9,7 @@ use Rattle.up_num.specs.declared.answers.Refusal.TheVariants.{NoFrames}
 use Rattle.up_num.specs.declared.answers.Refusal.TheVariants as refusal
 use Rattle.up_num.specs.declared.pages.PageNo.{PageNo}
 use Rattle.up_model.specs.Attempts.{Access, page_of, parked}
+use Rattle.up_model.specs.Pages.{page_number}
 use Rattle.up_model.specs.Size.{size, range_fits, access_fits}
 use Rattle.up_model.specs.Value.{there}
 use Rattle.up_model.specs.States.{dirty, unclean}
@@ -16,7 +17,7 @@ use Rattle.up_model.specs.Pins.{loaned}
 use Rattle.up_num.specs.Span.{Span}
 use Rattle.up_model.specs.Roles.{detached}
 use Rattle.up_model.specs.Tickets.{outcome, next_ticket}
-use Rattle.up_model.specs.Reply.{refuse_where, refuse_at, with_frames, is_scan, frames_in, must_wait, touch_reply, access_reply, retry_reply, packet_reply, resize_reply, is_pinned, absent, reply}
+use Rattle.up_model.specs.Reply.{refuse_where, refuse_at, with_frames, is_scan, frames_in, must_wait, touch_reply, access_reply, retry_reply, packet_reply, resize_reply, is_pinned, absent, pages_where, loaned_firm, loaned_loose, reply}
 use Rattle.up_model.specs.declared.entry.Birth.{Birth}
 use Rattle.up_model.specs.declared.entry.Brought.{Brought}
 use Rattle.up_model.specs.declared.entry.Entry.{Entry}
@@ -223,7 +224,8 @@ asks_right birth h who epoch (calls.Borrow page b) n is =
     let some = (lack_borrow birth h who epoch page b).is n is in
     record { brought = b; is = refl; fresh = some.fresh; fewer = some.fewer; none = refl; one = λ _. sym some.count }
 asks_right birth h who epoch (calls.Vacate b) n is =
-    let some : Lack b (reply birth h who epoch (calls.Vacate b)) = l_frames b _ _ refl in
+    let some : Lack b (reply birth h who epoch (calls.Vacate b)) = l_frames b (length (pages_where birth h (loaned_firm birth h)))
+    (answer.Vacated (map page_number (pages_where birth h (loaned_firm birth h))) (map page_number (pages_where birth h (loaned_loose birth h)))) refl in
     asks_some _ n b refl refl refl (some.is n is)
 asks_right birth h who epoch call n is = absurd (quiet (reply birth h who epoch call) n is (silent_call birth h who epoch call refl).is)
 
