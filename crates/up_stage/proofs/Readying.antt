@@ -235,6 +235,7 @@ acts_within births g who a object call k p =
 -- what comes of one wish
 pub record Further (old new : Staged) (who : ℕ) (a : Acting) (wish : Wish) (answer : Heard) : Type 0 where
   pub ready : Ready new who (next_wish a answer)
+  pub is : slice_get new.actors who ≡ Some (next_acting a answer)
   pub lower : rank (next_acting a answer) (next_wish a answer) < rank a wish
 
 pub ready_more : (births : List Birth) (g : List Entered) (old new : Staged) (who : ℕ) (wish : Wish) (answer : Heard) (r : Ready old who wish) → rests wish ≡ false → old.hands.lives ≡ lives_of births g
@@ -275,5 +276,6 @@ ready_more births g old new who wish answer r goes lives d legal kept actors don
         others = λ v b apart is. r.others v b apart
             (rw apart at (sym (slice_get-set old.actors who (next_acting a answer) v within) ∙ ap (λ (xs : List Acting). slice_get xs v) (sym actors) ∙ is));
       };
+      is = ap (λ (xs : List Acting). slice_get xs who) actors ∙ slice_get-set old.actors who (next_acting a answer) who within ∙ rw (nat_eq-same who) refl;
       lower = c.after.lower;
     }

@@ -211,3 +211,11 @@ resumed old mid new who a is waits hands actors follows births s world st =
       goes = f.goes;
       answers = f.answers;
     }
+
+-- the places in the lines are no matter to that
+pub rest_done : (s : Staged) (done : List ℕ) → AtRest s → length done ≡ length s.done → AtRest (record { hands = s.hands; actors = s.actors; done = done })
+rest_done s done r count = record {
+  keeps = record { legal = r.keeps.legal; kept = r.keeps.kept; done = count ∙ r.keeps.done; each = r.keeps.each };
+  hand = r.hand;
+  rest = r.rest;
+}

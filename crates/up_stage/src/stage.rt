@@ -96,14 +96,19 @@ impl Stage {
         ensures { OnOk result (Does lines.now at self.old self.new) }
     {
         let line = &lines[at];
-        match (is_go(&line.action), self.is_parked(line.actor)) {
-            (true, true) => {
-                self.resume(alloc, line.actor)?;
-                self.catch_up(alloc, lines, line.actor, at)
+        let parked = self.is_parked(line.actor);
+        if is_go(&line.action) {
+            if !parked {
+                return Ok(());
             }
-            (false, false) => self.act(alloc, line, at + 1),
-            _ => Ok(()),
+            self.resume(alloc, line.actor)?;
+            return self.catch_up(alloc, lines, line.actor, at);
         }
+        if parked {
+            return Ok(());
+        }
+        self.act(alloc, line, at + 1)?;
+        Ok(())
     }
 
     /// Does the lines of an actor that were put off, those before line `end`, until it waits.

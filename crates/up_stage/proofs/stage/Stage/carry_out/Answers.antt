@@ -76,7 +76,7 @@ returns-in-Ok-clause-lower c =
     let next = c.in-Ok.ensures.wish ∙ ap (λ (a : Acting). next_wish a heard) (sym same) in
     subst (λ (v : Staged). rank_at new c.args.who c.in-Ok.next < rank_at v c.args.who c.args.wish) c.self.view_is
     (subst (λ (w : Wish). rank_at new c.args.who w < rank_at s c.args.who c.args.wish) (sym next)
-    (ranked s new c.args.who r.acting f.ready.acting c.args.wish (next_wish r.acting heard) r.is f.ready.is f.lower))
+    (ranked s new c.args.who r.acting (next_acting r.acting heard) c.args.wish (next_wish r.acting heard) r.is f.is f.lower))
 
 pub returns-in-Ok-clause-went : goal.returns-in-Ok-clause-went
 returns-in-Ok-clause-went c =

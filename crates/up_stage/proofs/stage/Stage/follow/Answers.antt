@@ -7,8 +7,8 @@ use Rattle.up_stage.proofs.stage.Stage.follow.Goals as goal
 
 pub loop-alloc-preserved : goal.loop-alloc-preserved
 loop-alloc-preserved c =
-    following_more c.args.self.now c.loop-alloc.self c.carry_out.new.self c.args.who c.args.first c.loop-alloc.wish c.in_ok-carry_out.value c.loop-alloc.invariant (sym c.rests.ensures ∙ c.loop-alloc-test.true)
-    c.in_ok-carry_out.ensures.ready c.in_ok-carry_out.ensures.shape c.in_ok-carry_out.ensures.done c.in_ok-carry_out.ensures.went
+    following_more c.args.self.now c.loop-alloc.self c.carry_out.new.self c.args.who c.args.first c.loop-alloc.wish c.in_ok-wish.wish c.loop-alloc.invariant (sym c.rests.ensures ∙ c.loop-alloc-test.true)
+    c.in_ok-wish.ensures.ready c.in_ok-wish.ensures.shape c.in_ok-wish.ensures.done c.in_ok-wish.ensures.went
 
 pub returns-clause-rest : goal.returns-clause-rest
 returns-clause-rest c = at_rest c.loop-alloc.self c.args.who c.loop-alloc.wish c.loop-alloc.invariant.ready (sym c.rests.ensures ∙ c.loop-alloc-test.false)
