@@ -1,15 +1,17 @@
 -- A script's objects and actors before its first line, and what was played at its end.
-use Rattle.std.proofs.Common.{◌≡◌, ℕ, ◌+◌, ◌<◌, ◌≤◌, ◌&&◌, Bool, true, false, Option, Some, None, List, [], ◌∷◌, zero, suc, length, map, take, replicate, reverse, refl, sym, ap, ◌∙◌, subst, inl, inr, slice_get, slice_index, nat_lt, arith}
+use Rattle.std.proofs.Common.{◌≡◌, ℕ, ◌+◌, ◌<◌, ◌≤◌, ◌&&◌, ◌++◌, Bool, true, false, Option, Some, None, List, [], ◌∷◌, zero, suc, length, map, take, replicate, reverse, refl, sym, ap, ◌∙◌, subst, inl, inr, slice_get, slice_index, nat_lt, arith}
 use Rattle.std.specs.List.{list_all}
 use Rattle.std.proofs.lemmas.Bool.{ltb-true}
-use Rattle.std.proofs.lemmas.List.{length-replicate, length-map}
+use Rattle.std.proofs.lemmas.List.{length-replicate, length-map, length-take-le}
 use Rattle.up_model.proofs.Bools.{and_left, and_right}
 use Rattle.up_model.specs.Legal.{Life}
 use Rattle.up_model.specs.declared.entry.Birth.{Birth}
 use Rattle.up_model.specs.declared.entry.Entry.{Entry}
-use Rattle.up_hands.specs.Handed.{lives_from, lives_of, new_life, ends_of, AllLegal}
+use Rattle.up_script.specs.declared.script.ObjectLine.{ObjectLine}
+use Rattle.up_stage.proofs.Lining.{take_more}
+use Rattle.up_hands.specs.Handed.{is_fair, lives_from, lives_of, new_life, ends_of, AllLegal}
 use Rattle.up_script.specs.Actions.{kind_of}
-use Rattle.up_script.specs.Sound.{is_sound, are_sound_objects, is_sound_line, are_sound_lines}
+use Rattle.up_script.specs.Sound.{is_sound_object, is_fair_object, is_sound, are_sound_objects, is_sound_line, are_sound_lines}
 use Rattle.up_script.specs.declared.script.ActorLine.{ActorLine}
 use Rattle.up_script.specs.declared.script.Kind.{Kind}
 use Rattle.up_script.specs.declared.script.Line.{Line}
@@ -170,3 +172,30 @@ journals_are script first last journals follow able is went legal are =
       legal = subst AllLegal lives legal;
       are = are ∙ ap ends_of lives;
     }
+
+fair_all : (objects : List ObjectLine) → list_all is_sound_object objects ≡ true → list_all is_fair (births_of objects) ≡ true
+fair_all [] sound = refl
+fair_all (o ∷ os) sound =
+    let one = and_left (is_sound_object o) (list_all is_sound_object os) sound in
+    both _ _ (both _ _ (and_right (is_fair_object o) _ (and_left _ _ one)) (and_right _ _ one)) (fair_all os (and_right (is_sound_object o) (list_all is_sound_object os) sound))
+
+pub born_fair : (script : Script) → is_sound script ≡ true → list_all is_fair (births_of script.objects) ≡ true
+born_fair script sound = fair_all script.objects (and_right _ _ (and_left _ _ (and_left _ _ sound)))
+
+-- one actor more
+unborn_append : (n : ℕ) (xs ys : List ActorLine) → unborn_from n (xs ++ ys) ≡ unborn_from n xs ++ unborn_from (n + length xs) ys
+unborn_append n [] ys = (let e : n ≡ n + 0 = omega arith in ap (λ k. unborn_from k ys) e)
+unborn_append n (x ∷ xs) ys =
+    ap (λ (as_before : List Acting). unborn n x.kind x.objects ∷ as_before) (unborn_append (n + 1) xs ys
+    ∙ ap (λ k. unborn_from (n + 1) xs ++ unborn_from k ys) (let e : n + 1 + length xs ≡ n + suc (length xs) = omega arith in e))
+
+pub unborn_more : (lines : List ActorLine) (at who : ℕ) (line : ActorLine) (objects : List ℕ) (old new : List Acting) → slice_get lines at ≡ Some line → at ≤ length lines → who ≡ at → objects ≡ line.objects
+    → old ≡ unborn_from 0 (take at lines) → new ≡ old ++ unborn who line.kind objects ∷ [] → new ≡ unborn_from 0 (take (at + 1) lines)
+unborn_more lines at who line objects old new is below number same before after =
+    let e : at + 1 ≡ suc at = omega arith in
+    let many : 0 + length (take at lines) ≡ who = (let l = length-take-le at lines below in omega arith) in
+    after ∙ ap (λ (xs : List Acting). xs ++ unborn who line.kind objects ∷ []) before
+    ∙ ap (λ (os : List ℕ). unborn_from 0 (take at lines) ++ unborn who line.kind os ∷ []) same
+    ∙ ap (λ k. unborn_from 0 (take at lines) ++ unborn_from k (line ∷ [])) (sym many)
+    ∙ sym (unborn_append 0 (take at lines) (line ∷ []))
+    ∙ ap (unborn_from 0) (sym (take_more lines at line is)) ∙ ap (λ k. unborn_from 0 (take k lines)) (sym e)

@@ -25,7 +25,7 @@ use Rattle.up_stage.specs.Lines.{HasBegun, Paced, CaughtTo, CaughtUp, SameOthers
 use Rattle.up_stage.proofs.Lives.{some_same, slice_get-set, get_some}
 use Rattle.up_stage.proofs.Resting.{goes_others, parked_is}
 
-take_more : {X : Type 0} (xs : List X) (n : ℕ) (x : X) → slice_get xs n ≡ Some x → take (suc n) xs ≡ take n xs ++ x ∷ []
+pub take_more : {X : Type 0} (xs : List X) (n : ℕ) (x : X) → slice_get xs n ≡ Some x → take (suc n) xs ≡ take n xs ++ x ∷ []
 take_more [] n x is = absurd cc
 take_more (y ∷ ys) zero x is = ap (λ z. z ∷ []) (some_same y x is)
 take_more (y ∷ ys) (suc n) x is = ap (λ zs. y ∷ zs) (take_more ys n x is)

@@ -26,4 +26,4 @@ loop-at-preserved c =
     c.in_ok-pass.ensures.rest c.in_ok-pass.ensures.shape c.in_ok-pass.ensures.done c.in_ok-pass.ensures.went
 
 pub returns : goal.returns
-returns c = catching_end c.args.lines.now c.args.who c.loop-at.at c.args.end c.args.self.now c.loop-at.self c.loop-at.invariant (λ begin. omega (arith, begin, c.done_to.ensures))
+returns c = catching_end c.args.lines.now c.args.who c.loop-at.at c.args.end c.args.self.now c.loop-at.self c.loop-at.invariant (λ begin. omega (arith, begin, c.done_to-at.ensures))
