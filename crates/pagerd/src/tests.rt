@@ -47,7 +47,11 @@ const STEPS: [(&str, u8, &str); 12] = [
     ("u write a 0 41*1+41*1\n", 3, "fault 9 bytes\n"),
     ("u leave a\nu read a 0 1\n", 3, "fault 10 left\n"),
     ("u go", 3, "fault 9 cut\n"),
-    ("u go\nu write a 0 41*1\n", 3, "fault 10 unbuilt\n"),
+    (
+        "u go\nu write a 0 41*1\n",
+        0,
+        "0 0 0 write 0 41*1 0 - -> blocked 0\nend 1\ndone\n",
+    ),
 ];
 
 /// What may stand in the first journal behind the supply, and what is told of the whole.
@@ -154,11 +158,25 @@ fn worked_journals_are_judged(rt: HostRuntime) -> Result<(), Fail> {
     Ok(())
 }
 
+#[test]
+fn a_generated_script_is_done(rt: HostRuntime) -> Result<(), Fail> {
+    check_run(
+        &rt,
+        rt.alloc(),
+        "gen 7 3",
+        "",
+        (
+            0,
+            "gen 7 3 entries 6 reads 2 writes 1 took 3 evicted 0 sum 299\n",
+        ),
+    )
+}
+
 /// A source that fails at once shows that it isn't read.
 #[test]
 fn other_words_are_told(rt: HostRuntime) -> Result<(), Fail> {
     let alloc = rt.alloc();
-    for line in ["", "run", "step x", "check step", "gen 7 1"] {
+    for line in ["", "run", "step x", "check step", "gen 07 1"] {
         let mut source = MemSource::new(alloc, FIRST.as_bytes(), &[1], 100)?;
         let mut sink = MemSink::new(alloc, &[], 100)?;
         let status = alone(

@@ -1,0 +1,54 @@
+use Rattle.std.proofs.Common.{◌≡◌, ◌+◌, ◌<◌, ◌≤◌, ℕ, Bool, true, false, not, length, Some, None, refl, sym, ap, ◌∙◌, subst, arith, List, slice_get, slice_set, slice_index, length-set}
+use Rattle.std.proofs.lemmas.Option.{slice_get_read, slice_get_within}
+use Rattle.std.proofs.lemmas.Result.{IfOk-weaker}
+use Rattle.up_stage.specs.Staged.{Staged, SameShape}
+use Rattle.up_worker.specs.Acting.{Acting, first_wish, started}
+use Rattle.up_worker.specs.declared.course.Doing.TheVariants.{OneLine}
+use Rattle.up_worker.specs.declared.wish.Wish.{Wish}
+use Rattle.up_stage.specs.Played.{is_able_line}
+use Rattle.up_stage.specs.Ready.{AtRest, Ready, is_waiting}
+use Rattle.up_stage.specs.Worlds.{FollowsOn, ActsOn}
+use Rattle.up_stage.proofs.Abling.{able_known, able_action, is_free}
+use Rattle.up_stage.proofs.Resting.{begin_ready, acted}
+use Rattle.up_stage.proofs.stage.Stage.act.Goals as goal
+
+pub begin_line-requires-clause-free : goal.begin_line-requires-clause-free
+begin_line-requires-clause-free c =
+    let s : Staged = record { hands = c.self.inside.hands; actors = c.self.inside.actors.items; done = c.self.inside.done.items } in
+    let line = c.args.line.now in
+    let r = subst AtRest (sym c.self.view_is) c.requires.rest in
+    let sound = subst (λ (v : Staged). is_able_line (length v.hands.lives) (length v.actors) line ≡ true) (sym c.self.view_is) c.requires.sound in
+    let free = subst (λ (v : Staged). is_waiting v line.actor ≡ false) (sym c.self.view_is) c.requires.free in
+    let within = able_known (length s.hands.lives) (length s.actors) line sound in
+    let is = slice_get_read s.actors (length s.actors) line.actor c.index_mut.result.now refl within c.index_mut.ensures.value in
+    (is_free s line.actor c.index_mut.result.now r is free).0
+
+pub follow-requires : goal.follow-requires
+follow-requires c =
+    let s : Staged = record { hands = c.self.inside.hands; actors = c.self.inside.actors.items; done = c.self.inside.done.items } in
+    let line = c.args.line.now in
+    let r = subst AtRest (sym c.self.view_is) c.requires.rest in
+    let sound = subst (λ (v : Staged). is_able_line (length v.hands.lives) (length v.actors) line ≡ true) (sym c.self.view_is) c.requires.sound in
+    let within = able_known (length s.hands.lives) (length s.actors) line sound in
+    let a = c.index_mut.result.now in
+    let is = slice_get_read s.actors (length s.actors) line.actor a refl within c.index_mut.ensures.value in
+    let mid : Staged = record { hands = s.hands; actors = slice_set s.actors line.actor c.begin_line.new.self; done = slice_set s.done line.actor c.args.next } in
+    subst (λ (w : Wish). Ready mid line.actor w) (sym c.in_ok-wish.ensures.wish)
+    (begin_ready s mid line.actor a line.action r is (able_action (length s.hands.lives) (length s.actors) line sound) refl
+    (ap (λ (x : Acting). slice_set s.actors line.actor x) c.in_ok-wish.ensures.ok) (length-set s.done line.actor c.args.next))
+
+pub returns-clause-went : goal.returns-clause-went
+returns-clause-went c =
+    let s : Staged = record { hands = c.self.inside.hands; actors = c.self.inside.actors.items; done = c.self.inside.done.items } in
+    let line = c.args.line.now in
+    let r = subst AtRest (sym c.self.view_is) c.requires.rest in
+    let sound = subst (λ (v : Staged). is_able_line (length v.hands.lives) (length v.actors) line ≡ true) (sym c.self.view_is) c.requires.sound in
+    let free = subst (λ (v : Staged). is_waiting v line.actor ≡ false) (sym c.self.view_is) c.requires.free in
+    let within = able_known (length s.hands.lives) (length s.actors) line sound in
+    let a = c.index_mut.result.now in
+    let is = slice_get_read s.actors (length s.actors) line.actor a refl within c.index_mut.ensures.value in
+    let mid : Staged = record { hands = s.hands; actors = slice_set s.actors line.actor c.begin_line.new.self; done = slice_set s.done line.actor c.args.next } in
+    IfOk-weaker c.follow.result (λ _. FollowsOn mid c.follow.new.self line.actor c.in_ok-wish.wish) (λ _. ActsOn c.args.self.now c.follow.new.self line)
+    (λ _ f. subst (λ (v : Staged). ActsOn v c.follow.new.self line) c.self.view_is
+    (acted s mid c.follow.new.self line a is (is_free s line.actor a r is free).0 refl (ap (λ (x : Acting). slice_set s.actors line.actor x) c.in_ok-wish.ensures.ok)
+    (subst (λ (w : Wish). FollowsOn mid c.follow.new.self line.actor w) c.in_ok-wish.ensures.wish f))) c.follow.ensures.went

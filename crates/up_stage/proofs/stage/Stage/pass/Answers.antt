@@ -1,0 +1,12 @@
+use Rattle.std.proofs.Common.{◌≡◌, ◌+◌, ◌<◌, ◌≤◌, ℕ, Bool, true, false, not, length, Some, None, refl, sym, ap, ◌∙◌, subst, arith, List, slice_get, slice_set, slice_index, length-set}
+use Rattle.std.proofs.lemmas.Option.{slice_get_read, slice_get_within}
+use Rattle.std.proofs.lemmas.Result.{IfOk-weaker}
+use Rattle.up_stage.specs.Staged.{Staged, SameShape}
+use Rattle.up_stage.specs.Ready.{AtRest}
+use Rattle.up_stage.proofs.Resting.{rest_done}
+use Rattle.up_stage.proofs.stage.Stage.pass.Goals as goal
+
+pub returns-clause-rest : goal.returns-clause-rest
+returns-clause-rest c =
+    let s : Staged = record { hands = c.self.inside.hands; actors = c.self.inside.actors.items; done = c.self.inside.done.items } in
+    rest_done s (slice_set s.done c.args.who c.args.next) (subst AtRest (sym c.self.view_is) c.requires.rest) (length-set s.done c.args.who c.args.next)

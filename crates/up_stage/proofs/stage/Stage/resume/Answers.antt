@@ -1,0 +1,40 @@
+use Rattle.std.proofs.Common.{◌≡◌, ◌+◌, ◌<◌, ◌≤◌, ℕ, Bool, true, false, not, length, Some, None, refl, sym, ap, ◌∙◌, subst, arith, List, slice_get, slice_set, slice_index, length-set}
+use Rattle.std.proofs.lemmas.Option.{slice_get_read, slice_get_within}
+use Rattle.std.proofs.lemmas.Result.{IfOk-weaker}
+use Rattle.up_stage.specs.Staged.{Staged, SameShape}
+use Rattle.up_worker.specs.Acting.{Acting, next_wish, next_acting}
+use Rattle.up_worker.specs.declared.wish.Heard.TheVariants as heard
+use Rattle.up_worker.specs.declared.wish.Wish.{Wish}
+use Rattle.up_stage.specs.Ready.{AtRest, Ready, is_waiting}
+use Rattle.up_stage.specs.Worlds.{FollowsOn, ResumesOn}
+use Rattle.up_stage.proofs.Abling.{is_parking}
+use Rattle.up_stage.proofs.Resting.{resume_ready, resumed}
+use Rattle.up_stage.proofs.stage.Stage.resume.Goals as goal
+
+pub follow-requires : goal.follow-requires
+follow-requires c =
+    let s : Staged = record { hands = c.self.inside.hands; actors = c.self.inside.actors.items; done = c.self.inside.done.items } in
+    let who = c.args.who in
+    let r = subst AtRest (sym c.self.view_is) c.requires.rest in
+    let waits = subst (λ (v : Staged). is_waiting v who ≡ true) (sym c.self.view_is) c.requires.waits in
+    let within = subst (λ (v : Staged). who < length v.actors) (sym c.self.view_is) c.requires.known in
+    let a = c.index_mut.result.now in
+    let is = slice_get_read s.actors (length s.actors) who a refl within c.index_mut.ensures.value in
+    let mid : Staged = record { hands = s.hands; actors = slice_set s.actors who c.next.new.self; done = s.done } in
+    subst (λ (w : Wish). Ready mid who w) (sym c.in-Ok.ensures.wish)
+    (resume_ready s mid who a r is (is_parking s who a r is waits).1 refl (ap (λ (x : Acting). slice_set s.actors who x) c.in-Ok.ensures.ok) refl)
+
+pub returns-in-Ok-clause-went : goal.returns-in-Ok-clause-went
+returns-in-Ok-clause-went c =
+    let s : Staged = record { hands = c.self.inside.hands; actors = c.self.inside.actors.items; done = c.self.inside.done.items } in
+    let who = c.args.who in
+    let r = subst AtRest (sym c.self.view_is) c.requires.rest in
+    let waits = subst (λ (v : Staged). is_waiting v who ≡ true) (sym c.self.view_is) c.requires.waits in
+    let within = subst (λ (v : Staged). who < length v.actors) (sym c.self.view_is) c.requires.known in
+    let a = c.index_mut.result.now in
+    let is = slice_get_read s.actors (length s.actors) who a refl within c.index_mut.ensures.value in
+    let mid : Staged = record { hands = s.hands; actors = slice_set s.actors who c.next.new.self; done = s.done } in
+    IfOk-weaker c.follow.result (λ _. FollowsOn mid c.follow.new.self who c.in-Ok.wish) (λ _. ResumesOn c.args.self.now c.follow.new.self who)
+    (λ _ f. subst (λ (v : Staged). ResumesOn v c.follow.new.self who) c.self.view_is
+    (resumed s mid c.follow.new.self who a is (is_parking s who a r is waits).0 refl (ap (λ (x : Acting). slice_set s.actors who x) c.in-Ok.ensures.ok)
+    (subst (λ (w : Wish). FollowsOn mid c.follow.new.self who w) c.in-Ok.ensures.wish f))) c.follow.ensures.went
