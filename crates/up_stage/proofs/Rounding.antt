@@ -1,9 +1,9 @@
 -- The generated script: its lines one round after the other, and that it can be played.
-use Rattle.std.proofs.Common.{◌≡◌, ℕ, ◌+◌, ◌*◌, ◌/◌, ◌%◌, ◌<◌, ◌≤◌, ◌==◌, ◌&&◌, ◌++◌, Bool, true, false, cond, List, [], ◌∷◌, zero, suc, length, replicate, refl, sym, ap, ◌∙◌, subst, nat_le, arith, Result, Ok, Err, OnOk}
+use Rattle.std.proofs.Common.{◌≡◌, ℕ, ◌+◌, ◌*◌, ◌/◌, ◌%◌, ◌<◌, ◌≤◌, ◌==◌, ◌&&◌, ◌++◌, Bool, true, false, cond, List, [], ◌∷◌, zero, suc, length, refl, sym, ap, ◌∙◌, subst, nat_le, arith, Result, Ok, Err, OnOk}
 use Rattle.std.proofs.lemmas.Bool.Decides.{nat_tests}
-use Rattle.std.proofs.lemmas.List.{length-replicate, length-append, append_assoc, append-nil}
+use Rattle.std.proofs.lemmas.List.{length-append, append_assoc}
 use Rattle.std.specs.List.{list_all}
-use Rattle.up_script.specs.Sound.{is_sound_line, is_sound}
+use Rattle.up_script.specs.Sound.{is_sound_line}
 use Rattle.up_model.proofs.Bools.{and_left, and_right}
 use Rattle.up_script.specs.declared.script.Action.{Action}
 use Rattle.up_script.specs.declared.script.Action.TheVariants as actions
@@ -106,7 +106,8 @@ put n actor action = record { number = n; actor = actor; action = action }
 pub put_two : (old one two : List Line) (a b : OwnAction) (first second : Action) → first ≡ a.action → second ≡ b.action
     → one ≡ old ++ put (7 + length old) a.actor first ∷ [] → two ≡ one ++ put (7 + length one) b.actor second ∷ [] → two ≡ old ++ numbered (7 + length old) (a ∷ b ∷ [])
 put_two old one two a b first second is_first is_second to_one to_two =
-    two_more old one two a b (to_one ∙ ap (λ action. old ++ put (7 + length old) a.actor action ∷ []) is_first) (to_two ∙ ap (λ action. one ++ put (7 + length one) b.actor action ∷ []) is_second)
+    two_more old one two a b (to_one ∙ ap (λ action. old ++ put (7 + length old) a.actor action ∷ []) is_first)
+        (to_two ∙ ap (λ action. one ++ put (7 + length one) b.actor action ∷ []) is_second)
 
 pub short_round : (old two : List Line) (number round : ℕ) → two ≡ old ++ numbered (7 + length old) (supplies (page_in number) ∷ accesses number round ∷ [])
     → (round % 16 ≡ 0 → ⊥) → two ≡ old ++ numbered (7 + length old) (round_of number round)

@@ -1,4 +1,3 @@
-use Rattle.std.proofs.Common.{◌%◌}
 use Rattle.up_stage.specs.Rounds.{page_in, supplies, accesses}
 use Rattle.up_stage.proofs.Rounding.{put_two, short_round, long_round, on_ok}
 use Rattle.up_stage.proofs.making.put_round.Goals as goal
