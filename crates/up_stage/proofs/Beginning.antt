@@ -70,7 +70,7 @@ zeros zero who = refl
 zeros (suc n) zero = refl
 zeros (suc n) (suc who) = zeros n who
 
-no_kept : (actors : List ActorLine) → replicate (length actors) 0 ≡ map (λ actor. 0) actors
+no_kept : (actors : List ActorLine) → replicate {A = ℕ} (length actors) 0 ≡ map (λ (actor : ActorLine). 0) actors
 no_kept [] = refl
 no_kept (a ∷ more) = ap (λ ns. 0 ∷ ns) (no_kept more)
 

@@ -30,20 +30,20 @@ record IsPieceOf (off end : ℕ) (piece : Piece) : Type 0 where
 
 consecutive_le : (off end : ℕ) (ps : List Piece) → Consecutive off end ps → off ≤ end
 consecutive_le off end [] c = omega (arith, c)
-consecutive_le off end (p ∷ ps) c = let rest = consecutive_le (off + p.len) end ps c.3 in omega arith
+consecutive_le off end (p ∷ ps) c = let rest = consecutive_le (off + p.len) end ps c.1.1.1 in omega arith
 
 piece_of : (off end : ℕ) (ps : List Piece) (k : ℕ) (piece : Piece) → Consecutive off end ps → slice_get ps k ≡ Some piece → IsPieceOf off end piece
 piece_of off end [] k piece c is = absurd cc
 piece_of off end (p ∷ ps) zero piece c is =
     let same : p ≡ piece = some_same p piece is in
-    let rest = consecutive_le (off + p.len) end ps c.3 in
+    let rest = consecutive_le (off + p.len) end ps c.1.1.1 in
     let at : p.off ≡ off = c.0 in
-    let many = c.1 in
-    let fits = c.2 in
+    let many = c.1.0 in
+    let fits = c.1.1.0 in
     subst (λ (x : Piece). IsPieceOf off end x) same
     (record { from = omega arith; some = many; page = rw at fits; to = omega arith })
 piece_of off end (p ∷ ps) (suc k) piece c is =
-    let rest = piece_of (off + p.len) end ps k piece c.3 is in
+    let rest = piece_of (off + p.len) end ps k piece c.1.1.1 is in
     record { from = (let f = rest.from in omega arith); some = rest.some; page = rest.page; to = rest.to }
 
 -- what stands at a place of a list that was mapped

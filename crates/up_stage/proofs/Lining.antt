@@ -25,13 +25,15 @@ use Rattle.up_stage.specs.Lines.{HasBegun, Paced, CaughtTo, CaughtUp, SameOthers
 use Rattle.up_stage.proofs.Lives.{some_same, slice_get-set, get_some}
 use Rattle.up_stage.proofs.Resting.{goes_others, parked_is}
 
-take_more : {X : Type 0} (xs : List X) (n : ℕ) (x : X) → slice_get xs n ≡ Some x → take (n + 1) xs ≡ take n xs ++ x ∷ []
+take_more : {X : Type 0} (xs : List X) (n : ℕ) (x : X) → slice_get xs n ≡ Some x → take (suc n) xs ≡ take n xs ++ x ∷ []
 take_more [] n x is = absurd cc
 take_more (y ∷ ys) zero x is = ap (λ z. z ∷ []) (some_same y x is)
 take_more (y ∷ ys) (suc n) x is = ap (λ zs. y ∷ zs) (take_more ys n x is)
 
 pub lines_more : (lines : List Line) (at : ℕ) (line : Line) → slice_get lines at ≡ Some line → reverse (take (at + 1) lines) ≡ line ∷ reverse (take at lines)
-lines_more lines at line is = ap reverse (take_more lines at line is) ∙ reverse-append (take at lines) (line ∷ [])
+lines_more lines at line is =
+    let e : at + 1 ≡ suc at = omega arith in
+    ap (λ k. reverse (take k lines)) e ∙ ap reverse (take_more lines at line is) ∙ reverse-append (take at lines) (line ∷ [])
 
 -- the lines given to an actor up to one line are the last of those up to a later one
 pub record MoreGiven (who : ℕ) (lines : List Line) (low high : ℕ) : Type 0 where
@@ -42,14 +44,14 @@ given_cons : (own : Bool) (doing : Doing) (more rest : List Doing) → (later : 
 given_cons true doing more rest = (doing ∷ more, refl)
 given_cons false doing more rest = (more, refl)
 
-none_at : {X : Type 0} (xs : List X) (n : ℕ) → slice_get xs n ≡ None → take (n + 1) xs ≡ take n xs
+none_at : {X : Type 0} (xs : List X) (n : ℕ) → slice_get xs n ≡ None → take (suc n) xs ≡ take n xs
 none_at [] zero is = refl
 none_at [] (suc n) is = refl
 none_at (y ∷ ys) zero is = absurd cc
 none_at (y ∷ ys) (suc n) is = ap (λ zs. y ∷ zs) (none_at ys n is)
 
 given_step : (who : ℕ) (lines : List Line) (low n : ℕ) (o : Option Line) → slice_get lines (low + n) ≡ o → MoreGiven who lines low (low + n) → MoreGiven who lines low (low + n + 1)
-given_step who lines low n None is g = record { later = g.later; is = ap (λ (xs : List Line). given_to who (reverse xs)) (none_at lines (low + n) is) ∙ g.is }
+given_step who lines low n None is g = record { later = g.later; is = (let e : low + n + 1 ≡ suc (low + n) = omega arith in ap (λ k. given_to who (reverse (take k lines))) e) ∙ ap (λ (xs : List Line). given_to who (reverse xs)) (none_at lines (low + n) is) ∙ g.is }
 given_step who lines low n (Some line) is g =
     let own = (line.actor == who) && not (is_go line.action) in
     let next = given_cons own (OneLine line.action) g.later (given_to who (reverse (take low lines))) in
@@ -127,12 +129,16 @@ own_more births s lines who at world line stage by act =
 pub pace_more : (s : Setting) (lines : List Line) (who at : ℕ) (world more : List Happening) (line : Line) → slice_get lines at ≡ Some line → (line.actor == who) ≡ true → is_go line.action ≡ false → HasBegun lines who at world
     → AllAnswers more → GoesOn s who more (happens who (Begins (OneLine line.action)) ∷ world) → HasBegun lines who (at + 1) (more ++ happens who (Begins (OneLine line.action)) ∷ world)
 pace_more s lines who at world more line is own go pace answers goes =
-    answers_begun s who more (happens who (Begins (OneLine line.action)) ∷ world) answers goes
-    ∙ rw (nat_eq-same who) (ap (λ (ds : List Doing). OneLine line.action ∷ ds) pace)
-    ∙ sym (ap (given_to who) (lines_more lines at line is) ∙ rw (own, go) refl)
+    let event = happens who (Begins (OneLine line.action)) in
+    let first : begun (events_of who (event ∷ world)) ≡ OneLine line.action ∷ begun (events_of who world) = rw (nat_eq-same who) refl in
+    let next : given_to who (line ∷ reverse (take at lines)) ≡ OneLine line.action ∷ given_to who (reverse (take at lines)) = rw (own, go) refl in
+    answers_begun s who more (event ∷ world) answers goes ∙ first ∙ ap (λ (ds : List Doing). OneLine line.action ∷ ds) pace ∙ sym next
+    ∙ ap (given_to who) (sym (lines_more lines at line is))
 
 pub pace_other : (lines : List Line) (who at : ℕ) (world : List Happening) (line : Line) → slice_get lines at ≡ Some line → is_own who line ≡ false → HasBegun lines who at world → HasBegun lines who (at + 1) world
-pace_other lines who at world line is other pace = pace ∙ sym (ap (given_to who) (lines_more lines at line is) ∙ rw other refl)
+pace_other lines who at world line is other pace =
+    let next : given_to who (line ∷ reverse (take at lines)) ≡ given_to who (reverse (take at lines)) = rw other refl in
+    pace ∙ sym next ∙ ap (given_to who) (sym (lines_more lines at line is))
 
 caught_more : (births : List Birth) (s : Setting) (lines : List Line) (who at : ℕ) (world : List Happening) (now new : Staged) (line : Line) (a : Acting) → slice_get lines at ≡ Some line → slice_get now.actors who ≡ Some a
     → is_waiting now who ≡ false → PassesOn now new who line → CaughtTo births s lines who at world now → CaughtTo births s lines who (at + 1) world new

@@ -94,11 +94,11 @@ pub legal_before : (births : List Birth) (x : Entered) (g : List Entered) → Al
 legal_before births x g legal = legal_before_from 0 births x g legal
 
 -- entries of one object, and of objects in order
-tagged : ℕ → List Entry → List Entered
+abbrev tagged : ℕ → List Entry → List Entered
 tagged n [] = []
 tagged n (e ∷ h) = record { object = n; entry = e } ∷ tagged n h
 
-pub all_of : ℕ → List Life → List Entered
+abbrev pub all_of : ℕ → List Life → List Entered
 all_of n [] = []
 all_of n (life ∷ lives) = tagged n life.journal ++ all_of (n + 1) lives
 

@@ -180,7 +180,7 @@ pub pending_begins : (a : Acting) → a.ticket ≡ None → Pending a (begins_ca
 pending_begins a none = begins_some a (under_way a) none refl
 
 -- what is in hand for these wishes: nothing for those that begin a call
-hand_bare : (call : Call) (takes : Bool) → takes_frames call ≡ takes → brings_as (borrows (bringing Nothing call)) (brought_in (bringing Nothing call)) ≡ empty_hand
+pub hand_bare : (call : Call) (takes : Bool) → takes_frames call ≡ takes → brings_as (borrows (bringing Nothing call)) (brought_in (bringing Nothing call)) ≡ empty_hand
 hand_bare call true is = rw (brought_bringing Nothing call is) refl
 hand_bare call false is = rw (none_bringing Nothing call is) refl
 

@@ -1,27 +1,30 @@
 -- What a reply tells that asks for frames, and which calls park.
-use Rattle.std.proofs.Common.{◌≡◌, ℕ, ◌+◌, ◌<◌, ◌==◌, ◌&&◌, ◌||◌, ◌⊎◌, not, max, Bool, true, false, cond, Option, Some, None, List, length, map, refl, sym, ap, ◌∙◌, inl, inr, nat_lt, slice_get, arith}
+use Rattle.std.proofs.Common.{◌≡◌, ℕ, ◌+◌, ◌<◌, ◌==◌, ◌&&◌, ◌||◌, ◌⊎◌, not, max, Bool, true, false, cond, Option, Some, None, List, length, map, refl, sym, ap, ◌∙◌, inl, inr, nat_le, nat_lt, slice_get, arith, rules}
 use Rattle.std.proofs.lemmas.Bool.{ltb-true}
 use Rattle.up_num.specs.declared.answers.Outcome.{Outcome}
 use Rattle.up_num.specs.declared.answers.Outcome.TheVariants.{Freed}
 use Rattle.up_num.specs.declared.answers.Packet.{Packet as PacketValue}
 use Rattle.up_num.specs.declared.answers.Refusal.{Refusal}
 use Rattle.up_num.specs.declared.answers.Refusal.TheVariants.{NoFrames}
+use Rattle.up_num.specs.declared.answers.Refusal.TheVariants as refusal
 use Rattle.up_num.specs.declared.pages.PageNo.{PageNo}
 use Rattle.up_model.specs.Attempts.{Access, page_of, parked}
-use Rattle.up_model.specs.Size.{range_fits, access_fits}
+use Rattle.up_model.specs.Size.{size, range_fits, access_fits}
 use Rattle.up_model.specs.Value.{there}
-use Rattle.up_model.specs.States.{dirty}
+use Rattle.up_model.specs.States.{dirty, unclean}
+use Rattle.up_model.specs.Pins.{loaned}
+use Rattle.up_num.specs.Span.{Span}
 use Rattle.up_model.specs.Roles.{detached}
-use Rattle.up_model.specs.Tickets.{outcome}
-use Rattle.up_model.specs.Reply.{refuse_where, refuse_at, with_frames, is_scan, frames_in, must_wait, touch_reply, access_reply, retry_reply, packet_reply, resize_reply, reply}
+use Rattle.up_model.specs.Tickets.{outcome, next_ticket}
+use Rattle.up_model.specs.Reply.{refuse_where, refuse_at, with_frames, is_scan, frames_in, must_wait, touch_reply, access_reply, retry_reply, packet_reply, resize_reply, is_pinned, absent, reply}
 use Rattle.up_model.specs.declared.entry.Birth.{Birth}
 use Rattle.up_model.specs.declared.entry.Brought.{Brought}
 use Rattle.up_model.specs.declared.entry.Entry.{Entry}
 use Rattle.up_model.specs.declared.entry.Call.{Call}
 use Rattle.up_model.specs.declared.entry.Call.TheVariants as calls
 use Rattle.up_model.specs.declared.entry.Reply.{Reply}
+use Rattle.up_model.specs.declared.entry.Reply.TheVariants as answer
 use Rattle.up_model.specs.declared.entry.Reply.TheVariants.{Blocked, Waiting, Needs, Done, Refused}
-use Rattle.up_model.proofs.Passed.{Past, past_where, past_at, past_frames}
 use Rattle.up_core.specs.Requests.{brought_in, takes_frames}
 use Rattle.up_worker.specs.Calls.{borrows, frames_before}
 use Rattle.up_steps.specs.Asked.{parks, may_park}
@@ -35,6 +38,16 @@ behind_at : (found : Option ℕ) (why : PageNo → Refusal) (next : Reply) (n : 
 behind_at None why next n is = is
 behind_at (Some p) why next n is = absurd cc
 
+abbrev is_ask : Reply → Bool
+is_ask (Needs count) = true
+is_ask _ = false
+
+quiet : (r : Reply) (n : ℕ) → r ≡ Needs n → is_ask r ≡ false → ⊥
+quiet r n is silent = let p : is_ask r ≡ true = ap is_ask is in absurd (let q : false ≡ true = sym silent ∙ p in cc)
+
+loud : (r : Reply) → parks r ≡ true → parks r ≡ false → ⊥
+loud r is silent = let q : false ≡ true = sym silent ∙ is in cc
+
 -- some frames are asked for, more than were brought
 pub record Lacks (m n : ℕ) (b : Brought) : Type 0 where
   pub count : m ≡ n
@@ -43,45 +56,148 @@ pub record Lacks (m n : ℕ) (b : Brought) : Type 0 where
 
 lacks_three : (none scan few : Bool) (m n : ℕ) (b : Brought) (next : Reply) → scan ≡ is_scan b → few ≡ nat_lt (frames_in b) m → (next ≡ Needs n → ⊥)
     → cond none next (cond scan (Refused NoFrames) (cond few (Needs m) next)) ≡ Needs n → Lacks m n b
-lacks_three true scan few m n b next s f no is = absurd (no is)
-lacks_three false true few m n b next s f no is = absurd cc
-lacks_three false false true m n b next s f no is =
+lacks_three true scan few m n b next s f never is = absurd (never is)
+lacks_three false true few m n b next s f never is = absurd cc
+lacks_three false false true m n b next s f never is =
     let same : m ≡ n = cc in
     record { count = same; fresh = sym s; fewer = rw (sym same) (ltb-true (frames_in b) m (sym f)) }
-lacks_three false false false m n b next s f no is = absurd (no is)
+lacks_three false false false m n b next s f never is = absurd (never is)
 
 lacks : (m n : ℕ) (b : Brought) (next : Reply) → (next ≡ Needs n → ⊥) → with_frames m b next ≡ Needs n → Lacks m n b
-lacks m n b next no is = lacks_three (m == 0) (is_scan b) (nat_lt (frames_in b) m) m n b next refl refl no is
-
-wait_asks_none : (birth : Birth) (h : List Entry) (n : ℕ) → must_wait birth h ≡ Needs n → ⊥
-wait_asks_none birth h n is = let next = behind_where (detached birth h) _ _ n is in absurd cc
+lacks m n b next never is = lacks_three (m == 0) (is_scan b) (nat_lt (frames_in b) m) m n b next refl refl never is
 
 -- what an access lacks is some number of frames
 abbrev LacksSome : ℕ → Brought → Type 0
 LacksSome n b = (m : ℕ) × Lacks m n b
 
-choose_wait : (b : Bool) (first next : Reply) (n m : ℕ) (brought : Brought) → (first ≡ Needs n → ⊥) → (next ≡ Needs n → LacksSome n brought) → cond b first next ≡ Needs n → LacksSome n brought
-choose_wait true first next n m brought no go is = absurd (no is)
-choose_wait false first next n m brought no go is = go is
+-- where the reply asks for frames, so many are lacking
+pub record Lack (b : Brought) (r : Reply) : Type 0 where
+  pub is : (n : ℕ) → r ≡ Needs n → LacksSome n b
 
-touch_lacks : (birth : Birth) (h : List Entry) (a : Access) (b : Brought) (bytes : Option (List ℕ)) (n : ℕ) → touch_reply birth h a b bytes ≡ Needs n → LacksSome n b
-touch_lacks birth h a b None n is = absurd cc
-touch_lacks birth h a b (Some bytes) n is =
-    choose_wait (birth.trap && not (dirty birth h (page_of a.off))) (must_wait birth h) _ n 0 b (wait_asks_none birth h n) (λ q. (_, lacks _ n b Done (λ z. cc) q)) is
+l_silent : (b : Brought) (r : Reply) → is_ask r ≡ false → Lack b r
+l_silent b r silent = record { is = λ n q. absurd (quiet r n q silent) }
 
-choose_there : (b : Bool) (first next : Reply) (n : ℕ) (brought : Brought) → (first ≡ Needs n → LacksSome n brought) → (next ≡ Needs n → ⊥) → cond b first next ≡ Needs n → LacksSome n brought
-choose_there true first next n brought go no is = go is
-choose_there false first next n brought go no is = absurd (no is)
+l_refusal : (b : Brought) (test : Bool) (why : Refusal) (next : Reply) → Lack b next → Lack b (refuse_where test why next)
+l_refusal b true why next q = record { is = λ n p. absurd cc }
+l_refusal b false why next q = q
 
-access_lacks : (birth : Birth) (h : List Entry) (a : Access) (b : Brought) (n : ℕ) → access_reply birth h a b ≡ Needs n → LacksSome n b
-access_lacks birth h a b n is =
-    choose_there (there birth h (page_of a.off)) (touch_reply birth h a b a.bytes) (must_wait birth h) n b (touch_lacks birth h a b a.bytes n) (wait_asks_none birth h n)
-    (behind_where (not (access_fits birth h a)) _ _ n is)
+l_page : (b : Brought) (found : Option ℕ) (why : PageNo → Refusal) (next : Reply) → Lack b next → Lack b (refuse_at found why next)
+l_page b None why next q = q
+l_page b (Some p) why next q = record { is = λ n z. absurd cc }
 
-retry_lacks : (birth : Birth) (h : List Entry) (b : Brought) (o : Outcome) (a : Option Access) (n : ℕ) → retry_reply birth h b o a ≡ Needs n → LacksSome n b
-retry_lacks birth h b Freed (Some a) n is = access_lacks birth h a b n is
-retry_lacks birth h b Freed None n is = absurd cc
-retry_lacks birth h b _ a n is = absurd cc
+l_choice : (b : Brought) (test : Bool) (first second : Reply) → Lack b first → Lack b second → Lack b (cond test first second)
+l_choice b true first second p q = p
+l_choice b false first second p q = q
+
+l_frames : (b : Brought) (m : ℕ) (next : Reply) → is_ask next ≡ false → Lack b (with_frames m b next)
+l_frames b m next silent = record { is = λ n q. (m, lacks m n b next (λ z. quiet next n z silent) q) }
+
+l_wait : (birth : Birth) (h : List Entry) (b : Brought) → Lack b (must_wait birth h)
+l_wait birth h b = l_refusal b (detached birth h) refusal.Detached (Blocked (next_ticket h)) (l_silent b (Blocked (next_ticket h)) refl)
+
+l_touch : (birth : Birth) (h : List Entry) (a : Access) (b : Brought) (bytes : Option (List ℕ)) → Lack b (touch_reply birth h a b bytes)
+l_touch birth h a b None = record { is = λ n q. absurd cc }
+l_touch birth h a b (Some bytes) =
+    l_choice b (birth.trap && not (dirty birth h (page_of a.off))) (must_wait birth h) _ (l_wait birth h b) (l_frames b _ Done refl)
+
+l_access : (birth : Birth) (h : List Entry) (a : Access) (b : Brought) → Lack b (access_reply birth h a b)
+l_access birth h a b =
+    l_refusal b (not (access_fits birth h a)) refusal.Range _
+    (l_choice b (there birth h (page_of a.off)) (touch_reply birth h a b a.bytes) (must_wait birth h) (l_touch birth h a b a.bytes) (l_wait birth h b))
+
+l_retry : (birth : Birth) (h : List Entry) (b : Brought) (o : Outcome) (a : Option Access) → Lack b (retry_reply birth h b o a)
+l_retry birth h b Freed (Some a) = l_access birth h a b
+l_retry birth h b Freed None = record { is = λ n q. absurd cc }
+l_retry birth h b _ a = record { is = λ n q. absurd cc }
+
+-- a reply that asks for no frames
+pub record Silent (r : Reply) : Type 0 where
+  pub is : is_ask r ≡ false
+
+silent : (r : Reply) → is_ask r ≡ false → Silent r
+silent r q = record { is = q }
+
+s_refusal : (test : Bool) (why : Refusal) (next : Reply) → Silent next → Silent (refuse_where test why next)
+s_refusal true why next q = record { is = refl }
+s_refusal false why next q = q
+
+s_page : (found : Option ℕ) (why : PageNo → Refusal) (next : Reply) → Silent next → Silent (refuse_at found why next)
+s_page None why next q = q
+s_page (Some p) why next q = record { is = refl }
+
+s_choice : (test : Bool) (first second : Reply) → Silent first → Silent second → Silent (cond test first second)
+s_choice true first second p q = p
+s_choice false first second p q = q
+
+s_packet : (birth : Birth) (h : List Entry) (packet : Option PacketValue) → Silent (packet_reply birth h packet)
+s_packet birth h (Some packet) = record { is = refl }
+s_packet birth h None = s_choice (detached birth h) _ _ (record { is = refl }) (record { is = refl })
+
+s_resize : (birth : Birth) (h : List Entry) (pages : ℕ) (limit : Option ℕ) → Silent (resize_reply birth h pages limit)
+s_resize birth h pages None = record { is = refl }
+s_resize birth h pages (Some limit) = search (rules, s_refusal, s_page, silent)
+
+-- calls that never ask for frames
+abbrev never_asks : Call → Bool
+never_asks (calls.Read piece last b) = false
+never_asks (calls.Write off bytes last b) = false
+never_asks (calls.Retry ticket b) = false
+never_asks (calls.Dirty range b) = false
+never_asks (calls.Pin range b) = false
+never_asks (calls.Borrow page b) = false
+never_asks (calls.Vacate b) = false
+never_asks _ = true
+
+silent_call : (birth : Birth) (h : List Entry) (who epoch : ℕ) (call : Call) → never_asks call ≡ true → Silent (reply birth h who epoch call)
+silent_call birth h who epoch (calls.Read piece last b) q = absurd cc
+silent_call birth h who epoch (calls.Write off bytes last b) q = absurd cc
+silent_call birth h who epoch (calls.Retry ticket b) q = absurd cc
+silent_call birth h who epoch (calls.Dirty range b) q = absurd cc
+silent_call birth h who epoch (calls.Pin range b) q = absurd cc
+silent_call birth h who epoch (calls.Borrow page b) q = absurd cc
+silent_call birth h who epoch (calls.Vacate b) q = absurd cc
+silent_call birth h who epoch (calls.Supply range bytes b) q = search (rules, s_refusal, s_choice, silent)
+silent_call birth h who epoch (calls.Fail range code) q = search (rules, s_refusal, s_choice, silent)
+silent_call birth h who epoch (calls.Begin range zero) q = search (rules, s_refusal, s_choice, silent)
+silent_call birth h who epoch (calls.End range) q = search (rules, s_refusal, s_choice, silent)
+silent_call birth h who epoch (calls.Query range room) q = search (rules, s_refusal, s_choice, silent)
+silent_call birth h who epoch (calls.Hint range kind) q = search (rules, s_refusal, s_choice, silent)
+silent_call birth h who epoch (calls.Unpin range) q = search (rules, s_refusal, s_page, s_choice, silent)
+silent_call birth h who epoch (calls.Resize pages) q = s_resize birth h pages birth.limit
+silent_call birth h who epoch (calls.Zero range) q = search (rules, s_refusal, s_page, s_choice, silent)
+silent_call birth h who epoch calls.Detach q = search (rules, s_refusal, s_choice, silent)
+silent_call birth h who epoch calls.Packet q = s_packet birth h _
+silent_call birth h who epoch (calls.Leave role) q = search (rules, s_refusal, s_choice, silent)
+silent_call birth h who epoch _ q = record { is = refl }
+
+lack_call : (birth : Birth) (h : List Entry) (who epoch : ℕ) (range : Span) (b : Brought) → Lack b (reply birth h who epoch (calls.Dirty range b)) × Lack b (reply birth h who epoch (calls.Pin range b))
+lack_call birth h who epoch range b = (search (rules, l_refusal, l_page, l_choice, l_frames), search (rules, l_refusal, l_page, l_choice, l_frames))
+
+-- a borrow that asks for frames asks for one
+pub record LackOne (b : Brought) (r : Reply) : Type 0 where
+  pub is : (n : ℕ) → r ≡ Needs n → Lacks 1 n b
+
+o_silent : (b : Brought) (r : Reply) → is_ask r ≡ false → LackOne b r
+o_silent b r silent = record { is = λ n q. absurd (quiet r n q silent) }
+
+o_refusal : (b : Brought) (test : Bool) (why : Refusal) (next : Reply) → LackOne b next → LackOne b (refuse_where test why next)
+o_refusal b true why next q = record { is = λ n p. absurd cc }
+o_refusal b false why next q = q
+
+o_choice : (b : Brought) (test : Bool) (first second : Reply) → LackOne b first → LackOne b second → LackOne b (cond test first second)
+o_choice b true first second p q = p
+o_choice b false first second p q = q
+
+o_frames : (b : Brought) (next : Reply) → is_ask next ≡ false → LackOne b (with_frames 1 b next)
+o_frames b next silent = record { is = λ n q. lacks 1 n b next (λ z. quiet next n z silent) q }
+
+lack_borrow : (birth : Birth) (h : List Entry) (who epoch : ℕ) (page : PageNo) (b : Brought) → LackOne b (reply birth h who epoch (calls.Borrow page b))
+lack_borrow birth h who epoch page b =
+    o_refusal b (not (nat_lt page.0 (size birth h))) refusal.Range _
+    (o_refusal b (absent birth h page.0) (refusal.NotFound page) _
+    (o_refusal b (is_pinned h page.0) (refusal.Pinned page) _
+    (o_refusal b (unclean birth h page.0) (refusal.Unclean page) _
+    (o_choice b (loaned birth h page.0) (answer.Borrowed false) _ (o_silent b (answer.Borrowed false) refl) (o_frames b (answer.Borrowed true) refl)))))
 
 -- a call that is answered Needs(n): it takes frames, brought fewer and no scan, gathers none first, and a borrow lacks one
 pub record Asks (call : Call) (n : ℕ) : Type 0 where
@@ -95,100 +211,78 @@ pub record Asks (call : Call) (n : ℕ) : Type 0 where
 asks_some : (call : Call) (n : ℕ) (b : Brought) → brought_in call ≡ Some b → frames_before call ≡ 0 → borrows call ≡ false → LacksSome n b → Asks call n
 asks_some call n b is none plain some = record { brought = b; is = is; fresh = some.1.fresh; fewer = some.1.fewer; none = none; one = λ q. absurd cc }
 
-packet_asks_none : (birth : Birth) (h : List Entry) (o : Option PacketValue) (n : ℕ) → packet_reply birth h o ≡ Needs n → ⊥
-packet_asks_none birth h (Some packet) n is = cc
-packet_asks_none birth h None n is =
-    elim (detached birth h) as (λ b. detached birth h ≡ b → ⊥) [
-      | true ↦ λ q. let r : packet_reply birth h None ≡ Needs n = is in absurd cc
-      | false ↦ λ q. let r : packet_reply birth h None ≡ Needs n = is in absurd cc
-    ] refl
-
-resize_asks_none : (birth : Birth) (h : List Entry) (pages : ℕ) (limit : Option ℕ) (n : ℕ) → resize_reply birth h pages limit ≡ Needs n → ⊥
-resize_asks_none birth h pages None n is = cc
-resize_asks_none birth h pages (Some limit) n is = let next = behind_at _ _ _ n (behind_where (nat_lt limit pages) _ _ n is) in absurd cc
-
-borrow_last : (loan : Bool) (b : Brought) (n : ℕ) (yes no : Reply) → (no ≡ Needs n → ⊥) → (yes ≡ Needs n → ⊥) → cond loan no (with_frames 1 b yes) ≡ Needs n → Lacks 1 n b
-borrow_last true b n yes no first second is = absurd (first is)
-borrow_last false b n yes no first second is = lacks 1 n b yes second is
-
 pub asks_right : (birth : Birth) (h : List Entry) (who epoch : ℕ) (call : Call) (n : ℕ) → reply birth h who epoch call ≡ Needs n → Asks call n
-asks_right birth h who epoch (calls.Read piece last b) n is = asks_some _ n b refl refl refl (access_lacks birth h _ b n is)
-asks_right birth h who epoch (calls.Write off bytes last b) n is = asks_some _ n b refl refl refl (access_lacks birth h _ b n is)
-asks_right birth h who epoch (calls.Retry ticket b) n is = asks_some _ n b refl refl refl (retry_lacks birth h b (outcome birth h ticket) (parked h ticket) n is)
-asks_right birth h who epoch (calls.Supply range bytes b) n is = let next = behind_where _ _ _ n (behind_where _ _ _ n (behind_where _ _ _ n is)) in absurd cc
-asks_right birth h who epoch (calls.Fail range code) n is = let next = behind_where _ _ _ n (behind_where _ _ _ n is) in absurd cc
-asks_right birth h who epoch (calls.Dirty range b) n is =
-    asks_some _ n b refl refl refl (_, lacks _ n b _ (λ z. cc) (behind_at _ _ _ n (behind_where _ _ _ n (behind_where _ _ _ n (behind_where _ _ _ n is)))))
-asks_right birth h who epoch (calls.Begin range zero) n is = let next = behind_where _ _ _ n is in absurd cc
-asks_right birth h who epoch (calls.End range) n is = let next = behind_where _ _ _ n is in absurd cc
-asks_right birth h who epoch (calls.Query range room) n is = let next = behind_where _ _ _ n is in absurd cc
-asks_right birth h who epoch (calls.Stats reset) n is = absurd cc
-asks_right birth h who epoch (calls.Hint range kind) n is = let next = behind_where _ _ _ n is in absurd cc
-asks_right birth h who epoch (calls.Pin range b) n is =
-    asks_some _ n b refl refl refl (_, lacks _ n b _ (λ z. cc) (behind_at _ _ _ n (behind_at _ _ _ n (behind_where _ _ _ n is))))
-asks_right birth h who epoch (calls.Unpin range) n is = let next = behind_at _ _ _ n (behind_where _ _ _ n is) in absurd cc
-asks_right birth h who epoch (calls.Evict limit most) n is = absurd cc
+asks_right birth h who epoch (calls.Read piece last b) n is =
+    asks_some _ n b refl refl refl ((l_access birth h (record { off = piece.off; len = piece.len; last = last.0; bytes = None }) b).is n is)
+asks_right birth h who epoch (calls.Write off bytes last b) n is =
+    asks_some _ n b refl refl refl ((l_access birth h (record { off = off; len = length bytes; last = last.0; bytes = Some bytes }) b).is n is)
+asks_right birth h who epoch (calls.Retry ticket b) n is = asks_some _ n b refl refl refl ((l_retry birth h b (outcome birth h ticket) (parked h ticket)).is n is)
+asks_right birth h who epoch (calls.Dirty range b) n is = asks_some _ n b refl refl refl ((lack_call birth h who epoch range b).0.is n is)
+asks_right birth h who epoch (calls.Pin range b) n is = asks_some _ n b refl refl refl ((lack_call birth h who epoch range b).1.is n is)
 asks_right birth h who epoch (calls.Borrow page b) n is =
-    let some = borrow_last _ b n _ _ (λ z. cc) (λ z. cc) (behind_where _ _ _ n (behind_where _ _ _ n (behind_where _ _ _ n (behind_where _ _ _ n is)))) in
+    let some = (lack_borrow birth h who epoch page b).is n is in
     record { brought = b; is = refl; fresh = some.fresh; fewer = some.fewer; none = refl; one = λ _. sym some.count }
-asks_right birth h who epoch (calls.Vacate b) n is = asks_some _ n b refl refl refl (_, lacks _ n b _ (λ z. cc) is)
-asks_right birth h who epoch (calls.Resize pages) n is = absurd (resize_asks_none birth h pages birth.limit n is)
-asks_right birth h who epoch (calls.Zero range) n is = let next = behind_at _ _ _ n (behind_where _ _ _ n is) in absurd cc
-asks_right birth h who epoch calls.Detach n is = let next = behind_where _ _ _ n is in absurd cc
-asks_right birth h who epoch calls.Packet n is = absurd (packet_asks_none birth h _ n is)
-asks_right birth h who epoch (calls.Leave role) n is = let next = behind_where _ _ _ n is in absurd cc
-asks_right birth h who epoch (calls.Tell told) n is = absurd cc
+asks_right birth h who epoch (calls.Vacate b) n is =
+    let some : Lack b (reply birth h who epoch (calls.Vacate b)) = l_frames b _ _ refl in
+    asks_some _ n b refl refl refl (some.is n is)
+asks_right birth h who epoch call n is = absurd (quiet (reply birth h who epoch call) n is (silent_call birth h who epoch call refl).is)
 
 -- only accesses park
-past_parks : Past parks
-past_parks = record { refused = λ why. refl; needs = λ count. refl }
+pub record Loudless (r : Reply) : Type 0 where
+  pub is : parks r ≡ false
 
-no_where : (b : Bool) (why : Refusal) (next : Reply) → parks (refuse_where b why next) ≡ true → parks next ≡ true
-no_where b why next is = (past_where parks past_parks b why next is).1
+loudless : (r : Reply) → parks r ≡ false → Loudless r
+loudless r q = record { is = q }
 
-no_at : (o : Option ℕ) (why : PageNo → Refusal) (next : Reply) → parks (refuse_at o why next) ≡ true → parks next ≡ true
-no_at o why next is = (past_at parks past_parks o why next is).1
+p_refusal : (test : Bool) (why : Refusal) (next : Reply) → Loudless next → Loudless (refuse_where test why next)
+p_refusal true why next q = record { is = refl }
+p_refusal false why next q = q
 
-no_frames : (m : ℕ) (b : Brought) (next : Reply) → parks (with_frames m b next) ≡ true → parks next ≡ true
-no_frames m b next is = past_frames parks past_parks m b next is
+p_page : (found : Option ℕ) (why : PageNo → Refusal) (next : Reply) → Loudless next → Loudless (refuse_at found why next)
+p_page None why next q = q
+p_page (Some p) why next q = record { is = refl }
 
-no_packet : (birth : Birth) (h : List Entry) (o : Option PacketValue) → parks (packet_reply birth h o) ≡ true → ⊥
-no_packet birth h (Some packet) is = cc
-no_packet birth h None is =
-    elim (detached birth h) as (λ b. detached birth h ≡ b → ⊥) [
-      | true ↦ λ q. let r : parks (packet_reply birth h None) ≡ true = is in absurd cc
-      | false ↦ λ q. let r : parks (packet_reply birth h None) ≡ true = is in absurd cc
-    ] refl
+p_choice : (test : Bool) (first second : Reply) → Loudless first → Loudless second → Loudless (cond test first second)
+p_choice true first second p q = p
+p_choice false first second p q = q
 
-no_resize : (birth : Birth) (h : List Entry) (pages : ℕ) (limit : Option ℕ) → parks (resize_reply birth h pages limit) ≡ true → ⊥
-no_resize birth h pages None is = cc
-no_resize birth h pages (Some limit) is = let next = no_at _ _ _ (no_where (nat_lt limit pages) _ _ is) in absurd cc
+p_frames : (m : ℕ) (brought : Brought) (next : Reply) → Loudless next → Loudless (with_frames m brought next)
+p_frames m brought next q =
+    p_choice (m == 0) _ _ q (p_choice (is_scan brought) _ _ (record { is = refl }) (p_choice (nat_lt (frames_in brought) m) _ _ (record { is = refl }) q))
 
-no_borrow : (loan : Bool) (b : Brought) (yes no : Reply) → parks no ≡ false → parks yes ≡ false → parks (cond loan no (with_frames 1 b yes)) ≡ true → ⊥
-no_borrow true b yes no first second is = cc
-no_borrow false b yes no first second is = let next = no_frames 1 b yes is in cc
+p_packet : (birth : Birth) (h : List Entry) (packet : Option PacketValue) → Loudless (packet_reply birth h packet)
+p_packet birth h (Some packet) = record { is = refl }
+p_packet birth h None = p_choice (detached birth h) _ _ (record { is = refl }) (record { is = refl })
+
+p_resize : (birth : Birth) (h : List Entry) (pages : ℕ) (limit : Option ℕ) → Loudless (resize_reply birth h pages limit)
+p_resize birth h pages None = record { is = refl }
+p_resize birth h pages (Some limit) = search (rules, p_refusal, p_page, loudless)
+
+park_none : (birth : Birth) (h : List Entry) (who epoch : ℕ) (call : Call) → may_park call ≡ false → Loudless (reply birth h who epoch call)
+park_none birth h who epoch (calls.Read piece last b) q = absurd cc
+park_none birth h who epoch (calls.Write off bytes last b) q = absurd cc
+park_none birth h who epoch (calls.Retry ticket b) q = absurd cc
+park_none birth h who epoch (calls.Supply range bytes b) q = search (rules, p_refusal, p_choice, loudless)
+park_none birth h who epoch (calls.Fail range code) q = search (rules, p_refusal, p_choice, loudless)
+park_none birth h who epoch (calls.Dirty range b) q = search (rules, p_refusal, p_page, p_choice, p_frames, loudless)
+park_none birth h who epoch (calls.Begin range zero) q = search (rules, p_refusal, p_choice, loudless)
+park_none birth h who epoch (calls.End range) q = search (rules, p_refusal, p_choice, loudless)
+park_none birth h who epoch (calls.Query range room) q = search (rules, p_refusal, p_choice, loudless)
+park_none birth h who epoch (calls.Hint range kind) q = search (rules, p_refusal, p_choice, loudless)
+park_none birth h who epoch (calls.Pin range b) q = search (rules, p_refusal, p_page, p_choice, p_frames, loudless)
+park_none birth h who epoch (calls.Unpin range) q = search (rules, p_refusal, p_page, p_choice, loudless)
+park_none birth h who epoch (calls.Borrow page b) q = search (rules, p_refusal, p_page, p_choice, p_frames, loudless)
+park_none birth h who epoch (calls.Vacate b) q = search (rules, p_choice, p_frames, loudless)
+park_none birth h who epoch (calls.Resize pages) q = p_resize birth h pages birth.limit
+park_none birth h who epoch (calls.Zero range) q = search (rules, p_refusal, p_page, p_choice, loudless)
+park_none birth h who epoch calls.Detach q = search (rules, p_refusal, p_choice, loudless)
+park_none birth h who epoch calls.Packet q = p_packet birth h _
+park_none birth h who epoch (calls.Leave role) q = search (rules, p_refusal, p_choice, loudless)
+park_none birth h who epoch _ q = record { is = refl }
 
 pub parks_right : (birth : Birth) (h : List Entry) (who epoch : ℕ) (call : Call) → parks (reply birth h who epoch call) ≡ true → may_park call ≡ true
-parks_right birth h who epoch (calls.Read piece last b) is = refl
-parks_right birth h who epoch (calls.Write off bytes last b) is = refl
-parks_right birth h who epoch (calls.Retry ticket b) is = refl
-parks_right birth h who epoch (calls.Supply range bytes b) is = let next = no_where _ _ _ (no_where _ _ _ (no_where _ _ _ is)) in absurd cc
-parks_right birth h who epoch (calls.Fail range code) is = let next = no_where _ _ _ (no_where _ _ _ is) in absurd cc
-parks_right birth h who epoch (calls.Dirty range b) is = let next = no_frames _ b _ (no_at _ _ _ (no_where _ _ _ (no_where _ _ _ (no_where _ _ _ is)))) in absurd cc
-parks_right birth h who epoch (calls.Begin range zero) is = let next = no_where _ _ _ is in absurd cc
-parks_right birth h who epoch (calls.End range) is = let next = no_where _ _ _ is in absurd cc
-parks_right birth h who epoch (calls.Query range room) is = let next = no_where _ _ _ is in absurd cc
-parks_right birth h who epoch (calls.Stats reset) is = absurd cc
-parks_right birth h who epoch (calls.Hint range kind) is = let next = no_where _ _ _ is in absurd cc
-parks_right birth h who epoch (calls.Pin range b) is = let next = no_frames _ b _ (no_at _ _ _ (no_at _ _ _ (no_where _ _ _ is))) in absurd cc
-parks_right birth h who epoch (calls.Unpin range) is = let next = no_at _ _ _ (no_where _ _ _ is) in absurd cc
-parks_right birth h who epoch (calls.Evict limit most) is = absurd cc
-parks_right birth h who epoch (calls.Borrow page b) is =
-    absurd (no_borrow _ b _ _ refl refl (no_where _ _ _ (no_where _ _ _ (no_where _ _ _ (no_where _ _ _ is)))))
-parks_right birth h who epoch (calls.Vacate b) is = let next = no_frames _ b _ is in absurd cc
-parks_right birth h who epoch (calls.Resize pages) is = absurd (no_resize birth h pages birth.limit is)
-parks_right birth h who epoch (calls.Zero range) is = let next = no_at _ _ _ (no_where _ _ _ is) in absurd cc
-parks_right birth h who epoch calls.Detach is = let next = no_where _ _ _ is in absurd cc
-parks_right birth h who epoch calls.Packet is = absurd (no_packet birth h _ is)
-parks_right birth h who epoch (calls.Leave role) is = let next = no_where _ _ _ is in absurd cc
-parks_right birth h who epoch (calls.Tell told) is = absurd cc
+parks_right birth h who epoch call is =
+    elim (may_park call) as (λ t. may_park call ≡ t → t ≡ true) [
+      | true ↦ λ q. refl
+      | false ↦ λ q. absurd (loud (reply birth h who epoch call) is (park_none birth h who epoch call q).is)
+    ] refl

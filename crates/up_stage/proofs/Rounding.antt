@@ -18,14 +18,12 @@ abbrev line_of : ℕ → OwnAction → Line
 line_of n own = record { number = n; actor = own.actor; action = own.action }
 
 pub numbered_append : (n : ℕ) (xs ys : List OwnAction) → numbered n (xs ++ ys) ≡ numbered n xs ++ numbered (n + length xs) ys
-unfolding numbered
 numbered_append n [] ys = (let e : n ≡ n + 0 = omega arith in ap (λ k. numbered k ys) e)
 numbered_append n (x ∷ xs) ys =
     ap (λ (ls : List Line). line_of n x ∷ ls) (numbered_append (n + 1) xs ys
     ∙ ap (λ k. numbered (n + 1) xs ++ numbered k ys) (let e : n + 1 + length xs ≡ n + suc (length xs) = omega arith in e))
 
 pub length_numbered : (n : ℕ) (xs : List OwnAction) → length (numbered n xs) ≡ length xs
-unfolding numbered
 length_numbered n [] = refl
 length_numbered n (x ∷ xs) = let rest = length_numbered (n + 1) xs in omega arith
 
@@ -37,7 +35,6 @@ few_in_round number round =
     ]
 
 pub few_rounds : (seed count : ℕ) → length (rounds seed count) ≤ 4 * count
-unfolding rounds
 few_rounds seed zero = omega arith
 few_rounds seed (suc count) =
     let before = few_rounds seed count in
@@ -48,7 +45,6 @@ few_rounds seed (suc count) =
 -- one round more
 pub rounds_more : (seed place number : ℕ) (lines : List Line) → lines ≡ numbered 7 (rounds seed place) → number ≡ number_at seed (place + 1)
     → lines ++ numbered (7 + length lines) (round_of number (place + 1)) ≡ numbered 7 (rounds seed (place + 1))
-unfolding rounds number_at
 rounds_more seed place number lines is at =
     let e : place + 1 ≡ suc place = omega arith in
     let many : length lines ≡ length (rounds seed place) = ap length is ∙ length_numbered 7 (rounds seed place) in
@@ -61,11 +57,9 @@ rounds_more seed place number lines is at =
     ∙ ap (λ k. numbered 7 (rounds seed k)) (sym e)
 
 pub no_rounds : (seed : ℕ) → numbered 7 (rounds seed 0) ≡ []
-unfolding rounds numbered
 no_rounds seed = refl
 
 pub first_number : (seed : ℕ) → seed % 65537 ≡ number_at seed 0
-unfolding number_at
 first_number seed = refl
 
 -- there are few lines
@@ -76,14 +70,12 @@ few_lines seed place lines is =
     omega arith
 
 pub number_more : (seed place number : ℕ) → number ≡ number_at seed place → (75 * number + 74) % 65537 ≡ number_at seed (place + 1)
-unfolding number_at
 number_more seed place number is =
     let e : suc place ≡ place + 1 = omega arith in
     ap (λ n. (75 * n + 74) % 65537) is ∙ ap (number_at seed) e
 
 -- two lines of a round, and then the rest
 pub two_more : (old one two : List Line) (a b : OwnAction) → one ≡ old ++ line_of (7 + length old) a ∷ [] → two ≡ one ++ line_of (7 + length one) b ∷ [] → two ≡ old ++ numbered (7 + length old) (a ∷ b ∷ [])
-unfolding numbered
 two_more old one two a b first second =
     let many : length one ≡ length old + 1 = ap length first ∙ length-append old (line_of (7 + length old) a ∷ []) in
     let e : 7 + length one ≡ 7 + length old + 1 = omega arith in
@@ -168,17 +160,14 @@ good_append [] ys one two = two
 good_append (x ∷ xs) ys one two = both _ _ (and_left _ _ one) (good_append xs ys (and_right (is_good x) _ one) two)
 
 good_rounds : (seed count : ℕ) → list_all is_good (rounds seed count) ≡ true
-unfolding rounds
 good_rounds seed zero = refl
 good_rounds seed (suc count) = good_append (rounds seed count) _ (good_rounds seed count) (good_round (number_at seed (suc count)) (suc count))
 
 sound_numbered : (n : ℕ) (xs : List OwnAction) → list_all is_good xs ≡ true → list_all (is_sound_line 1 2) (numbered n xs) ≡ true
-unfolding numbered
 sound_numbered n [] good = refl
 sound_numbered n (x ∷ xs) good = both _ _ (and_left _ _ (and_left (is_good x) _ good)) (sound_numbered (n + 1) xs (and_right (is_good x) _ good))
 
 played_numbered : (n : ℕ) (xs : List OwnAction) → list_all is_good xs ≡ true → list_all (is_played_line actors) (numbered n xs) ≡ true
-unfolding numbered
 played_numbered n [] good = refl
 played_numbered n (x ∷ xs) good = both _ _ (and_right (is_sound_line 1 2 (line_of 0 x)) _ (and_left (is_good x) _ good)) (played_numbered (n + 1) xs (and_right (is_good x) _ good))
 

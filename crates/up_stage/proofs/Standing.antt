@@ -11,11 +11,14 @@ use Rattle.up_hands.specs.Carried.{CarriedOut, ages_after, kept_after}
 use Rattle.up_hands.specs.Carried as hands
 use Rattle.up_script.specs.declared.script.Kind.{Kind}
 use Rattle.up_steps.specs.Asked.{parks as parks_reply, may_park}
+use Rattle.up_model.specs.Reply.{reply}
 use Rattle.up_model.specs.declared.entry.Call.{Call}
+use Rattle.up_model.specs.declared.entry.Call.TheVariants as calls
+use Rattle.up_model.specs.declared.entry.Entry.{Entry}
 use Rattle.up_steps.specs.Steps.{Setting, Moment, AllAt}
-use Rattle.up_steps.specs.World.{Happening, happens, entries, out_of, said_by, moment_by, moment_in, OneThread, AccessesPark, IsCarried, is_park, is_parked, rests, GoesOn, AllAnswers}
+use Rattle.up_steps.specs.World.{Happening, happens, entries, out_of, said_by, moment_by, moment_in, OneThread, IsFair, AllFair, IsCarried, is_park, is_parked, rests, GoesOn, AllAnswers}
 use Rattle.up_worker.specs.Acting.{Acting, unborn, next_acting, started}
-use Rattle.up_worker.specs.Lives.{Entered, Event, Begins, Hears, Out, leads, led, Carries, OwnEvicts, gives_pages}
+use Rattle.up_worker.specs.Lives.{Entered, Event, Begins, Hears, Out, leads, led, Carries, OwnEvicts, gives_pages, is_evict}
 use Rattle.up_worker.specs.Thread.{of_object, DoneExactly}
 use Rattle.up_worker.specs.Wishes.{settles, wants_after}
 use Rattle.up_worker.specs.declared.course.Doing.{Doing}
@@ -80,7 +83,7 @@ actors_more s who event world actors new within is old v a at =
 
 -- after an answer
 pub stands_heard : (births : List Birth) (s : Setting) (world : List Happening) (old new : Staged) (who : ℕ) (wish : Wish) (answer : Heard) (a : Acting) → Stands births s world old → wish ≡ said_by s who world
-    → slice_get old.actors who ≡ Some a → (d : CarriedOut births old.hands new.hands who wish answer (entries world)) → AccessesPark d.made → new.actors ≡ slice_set old.actors who (next_acting a answer)
+    → slice_get old.actors who ≡ Some a → (d : CarriedOut births old.hands new.hands who wish answer (entries world)) → AllFair d.made → new.actors ≡ slice_set old.actors who (next_acting a answer)
     → Stands births s (happens who (Hears answer d.made) ∷ world) new
 stands_heard births s world old new who wish answer a st said is d parking actors =
     let m = moment_in s world in
@@ -107,7 +110,7 @@ stands_heard births s world old new who wish answer a st said is d parking actor
           carries = subst (λ (w : Wish). Carries who w answer d.made) said d.carries;
           exact = exact_same _ _ _ _ _ _ _ _ wish (said_by s who world) answer d.made g (sym st.home) (sym kept) (sym st.levels) (sym st.objects) said d.exact;
           epoch = epoch_same old.hands.ages m.ages d.made st.ages d.epoch;
-          parking = parking;
+          fair = parking;
         },
       );
     }
@@ -151,10 +154,14 @@ stands_woken births s world old new who object a st said is hands actors = recor
       carries = subst (λ (w : Wish). Carries who w heard.Done []) (sym said) (record { told = refl; none = refl });
       exact = subst (λ (w : Wish). DoneExactly s.home (s.loans (sum (moment_in s world).kept)) s.levels s.objects w heard.Done [] (entries world)) (sym said) tt;
       epoch = tt;
-      parking = tt;
+      fair = tt;
     },
   );
 }
+
+evict_gives : (birth : Birth) (h : List Entry) (who epoch : ℕ) (call : Call) → is_evict call ≡ true → gives_pages (reply birth h who epoch call) ≡ true
+evict_gives birth h who epoch (calls.Evict limit most) is = refl
+evict_gives birth h who epoch _ is = absurd cc
 
 -- of what is made for a wish only accesses park
 settles_parks : (r : Reply) → settles r ≡ true → parks_reply r ≡ true → ⊥
@@ -166,26 +173,32 @@ pages_park_none : (r : Reply) → gives_pages r ≡ true → parks_reply r ≡ t
 pages_park_none (replies.Pages pages) is p = absurd cc
 pages_park_none _ is p = absurd cc
 
-evicts_park_none : (who : ℕ) (made : List Entered) → OwnEvicts who made → AccessesPark made
+evicts_park_none : (who : ℕ) (made : List Entered) → OwnEvicts who made → AllFair made
 evicts_park_none who [] own = tt
-evicts_park_none who (x ∷ xs) own = ((λ p. absurd (pages_park_none x.entry.reply own.2 p)), evicts_park_none who xs own.3)
+evicts_park_none who (x ∷ xs) own = (record { parking = λ p. absurd (pages_park_none x.entry.reply own.2 p); giving = λ evicts. own.2 }, evicts_park_none who xs own.3)
 
 pub parking : (births : List Birth) (made g : List Entered) (who : ℕ) (wish : Wish) (answer : Heard) → AllLegal (lives_of births (made ++ g)) → Carries who wish answer made
-    → ((object : ℕ) (call : Call) → wish ≡ wishes.Act object call → object < length births) → AccessesPark made
+    → ((object : ℕ) (call : Call) → wish ≡ wishes.Act object call → object < length births) → AllFair made
 parking births made g who (wishes.Act object call) answer legal one on =
     let x : Entered = record { object = object; entry = one.entry } in
     let birth = get_some births object (on object call refl) in
     let lawful : AllLegal (lives_of births (x ∷ g)) = subst (λ (m : List Entered). AllLegal (lives_of births (m ++ g))) one.is legal in
     let due = due_reply births x g lawful birth.0 birth.1 in
-    subst AccessesPark (sym one.is)
-    ((λ p. parks_right birth.0 (of_object object g) one.entry.who one.entry.epoch one.entry.call (ap parks_reply (sym due) ∙ p)), tt)
-parking births made g who (wishes.Resize object pages) answer legal one on = subst AccessesPark (sym one.is) ((λ p. absurd (settles_parks one.entry.reply one.settled p)), tt)
+    subst AllFair (sym one.is) (
+      record {
+        parking = λ p. parks_right birth.0 (of_object object g) one.entry.who one.entry.epoch one.entry.call (ap parks_reply (sym due) ∙ p);
+        giving = λ evicts. ap gives_pages due ∙ evict_gives birth.0 (of_object object g) one.entry.who one.entry.epoch one.entry.call evicts;
+      },
+      tt,
+    )
+parking births made g who (wishes.Resize object pages) answer legal one on = subst AllFair (sym one.is)
+    (record { parking = λ p. absurd (settles_parks one.entry.reply one.settled p); giving = λ evicts. absurd (let no_evict : false ≡ true = ap is_evict (sym one.of_call) ∙ evicts in cc) }, tt)
 parking births made g who (wishes.Gather count) answer legal some on = evicts_park_none who made some.own
 parking births made g who wishes.Loan answer legal some on = evicts_park_none who made some.own
-parking births made g who (wishes.Park object) answer legal none on = subst AccessesPark (sym none.none) tt
-parking births made g who wishes.Age answer legal none on = subst AccessesPark (sym none.none) tt
-parking births made g who wishes.Keep answer legal none on = subst AccessesPark (sym none.none) tt
-parking births made g who wishes.Give answer legal none on = subst AccessesPark (sym none.none) tt
+parking births made g who (wishes.Park object) answer legal none on = subst AllFair (sym none.none) tt
+parking births made g who wishes.Age answer legal none on = subst AllFair (sym none.none) tt
+parking births made g who wishes.Keep answer legal none on = subst AllFair (sym none.none) tt
+parking births made g who wishes.Give answer legal none on = subst AllFair (sym none.none) tt
 parking births made g who (wishes.Relieve frames) answer legal own on = evicts_park_none who made own.1
 parking births made g who wishes.Watch answer legal own on = evicts_park_none who made own.1
 parking births made g who (wishes.Site object step) answer legal none on = absurd none

@@ -115,7 +115,7 @@ after_settled a object call r p is =
     record {
       pending = subst (λ (w : Wish). Pending (next_acting a (heard.Replied r)) w) (sym next)
           (stop_pending (next_acting a (heard.Replied r)) (is_access a.doing && is_refused r) (settled_none r a.ticket is));
-      hand = sym (ap hand_for next ∙ stop_hand (is_access a.doing && is_refused r) a.doing _);
+      hand = sym (ap hand_for next ∙ stop_hand (is_access a.doing && is_refused r) a.doing (under_way (next_acting a (heard.Replied r))));
       lower = lower_settled (length (calls_of a.kind a.objects a.doing)) a.settled _ (next_wish a (heard.Replied r)) (wishes.Act object call) (under_way_within a p.aim p.is) (settled_more r a.settled is) (omega arith);
     }
 

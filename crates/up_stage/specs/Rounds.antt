@@ -14,7 +14,7 @@ use Rattle.up_script.specs.declared.script.ObjectLine.{ObjectLine}
 use Rattle.up_script.specs.declared.script.Script.{Script}
 
 -- the sequence of numbers of a seed
-unfoldable pub number_at : ℕ → ℕ → ℕ
+abbrev pub number_at : ℕ → ℕ → ℕ
 number_at seed zero = seed % 65537
 number_at seed (suc round) = (75 * number_at seed round + 74) % 65537
 
@@ -56,12 +56,12 @@ writes_back = by_pager (calls.Begin all_pages false) ∷ by_pager (calls.End all
 abbrev pub round_of : ℕ → ℕ → List OwnAction
 round_of number round = supplies (page_in number) ∷ accesses number round ∷ cond (round % 16 == 0) writes_back []
 
-unfoldable pub rounds : ℕ → ℕ → List OwnAction
+abbrev pub rounds : ℕ → ℕ → List OwnAction
 rounds seed zero = []
 rounds seed (suc round) = rounds seed round ++ round_of (number_at seed (suc round)) (suc round)
 
 -- lines of a text, the first of this number
-unfoldable pub numbered : ℕ → List OwnAction → List Line
+abbrev pub numbered : ℕ → List OwnAction → List Line
 numbered n [] = []
 numbered n (own ∷ rest) = record { number = n; actor = own.actor; action = own.action } ∷ numbered (n + 1) rest
 
