@@ -1,15 +1,18 @@
 -- The generated script: its lines one round after the other, and that it can be played.
-use Rattle.std.proofs.Common.{◌≡◌, ℕ, ◌+◌, ◌*◌, ◌/◌, ◌%◌, ◌<◌, ◌≤◌, ◌==◌, ◌&&◌, ◌++◌, Bool, true, false, cond, List, [], ◌∷◌, zero, suc, length, replicate, refl, sym, ap, ◌∙◌, subst, nat_le, arith}
+use Rattle.std.proofs.Common.{◌≡◌, ℕ, ◌+◌, ◌*◌, ◌/◌, ◌%◌, ◌<◌, ◌≤◌, ◌==◌, ◌&&◌, ◌++◌, Bool, true, false, cond, List, [], ◌∷◌, zero, suc, length, refl, sym, ap, ◌∙◌, subst, nat_le, arith, Result, Ok, Err, OnOk}
 use Rattle.std.proofs.lemmas.Bool.Decides.{nat_tests}
-use Rattle.std.proofs.lemmas.List.{length-replicate, length-append, append_assoc, append-nil}
+use Rattle.std.proofs.lemmas.List.{length-append, append_assoc}
 use Rattle.std.specs.List.{list_all}
-use Rattle.up_script.specs.Sound.{is_sound_line, is_sound}
+use Rattle.up_script.specs.Sound.{is_sound_line}
 use Rattle.up_model.proofs.Bools.{and_left, and_right}
+use Rattle.up_script.specs.declared.script.Action.{Action}
 use Rattle.up_script.specs.declared.script.Action.TheVariants as actions
 use Rattle.up_script.specs.declared.script.ActorLine.{ActorLine}
 use Rattle.up_script.specs.declared.script.Line.{Line}
+use Rattle.up_script.specs.declared.script.ObjectLine.{ObjectLine}
+use Rattle.up_script.specs.declared.script.Script.{Script}
 use Rattle.up_stage.specs.Played.{IsPlayable, is_played_line}
-use Rattle.up_stage.specs.Rounds.{number_at, OwnAction, page_in, byte_at, supplies, accesses, writes_back, round_of, rounds, numbered, generated, generated_user, generated_pager}
+use Rattle.up_stage.specs.Rounds.{number_at, OwnAction, page_in, byte_at, supplies, accesses, writes_back, round_of, rounds, numbered, generated, generated_object, generated_user, generated_pager}
 
 abbrev line_of : ℕ → OwnAction → Line
 line_of n own = record { number = n; actor = own.actor; action = own.action }
@@ -53,6 +56,19 @@ rounds_more seed place number lines is at =
     ∙ sym (numbered_append 7 (rounds seed place) (round_of (number_at seed (suc place)) (suc place)))
     ∙ ap (λ k. numbered 7 (rounds seed k)) (sym e)
 
+pub no_rounds : (seed : ℕ) → numbered 7 (rounds seed 0) ≡ []
+no_rounds seed = refl
+
+pub first_number : (seed : ℕ) → seed % 65537 ≡ number_at seed 0
+first_number seed = refl
+
+-- there are few lines
+pub few_lines : (seed place : ℕ) (lines : List Line) → lines ≡ numbered 7 (rounds seed place) → length lines ≤ 4 * place
+few_lines seed place lines is =
+    let many : length lines ≡ length (rounds seed place) = ap length is ∙ length_numbered 7 (rounds seed place) in
+    let few = few_rounds seed place in
+    omega arith
+
 pub number_more : (seed place number : ℕ) → number ≡ number_at seed place → (75 * number + 74) % 65537 ≡ number_at seed (place + 1)
 number_more seed place number is =
     let e : suc place ≡ place + 1 = omega arith in
@@ -73,6 +89,34 @@ four_more old two four xs ys first second =
     second ∙ ap (λ n. two ++ numbered n ys) e ∙ ap (λ (ls : List Line). ls ++ numbered (7 + length old + length xs) ys) first
     ∙ append_assoc old (numbered (7 + length old) xs) (numbered (7 + length old + length xs) ys)
     ∙ ap (λ (ls : List Line). old ++ ls) (sym (numbered_append (7 + length old) xs ys))
+
+-- a line of an actor with this action
+abbrev put : ℕ → ℕ → Action → Line
+put n actor action = record { number = n; actor = actor; action = action }
+
+-- what is appended, line by line
+pub put_two : (old one two : List Line) (a b : OwnAction) (first second : Action) → first ≡ a.action → second ≡ b.action
+    → one ≡ old ++ put (7 + length old) a.actor first ∷ [] → two ≡ one ++ put (7 + length one) b.actor second ∷ [] → two ≡ old ++ numbered (7 + length old) (a ∷ b ∷ [])
+put_two old one two a b first second is_first is_second to_one to_two =
+    two_more old one two a b (to_one ∙ ap (λ action. old ++ put (7 + length old) a.actor action ∷ []) is_first)
+        (to_two ∙ ap (λ action. one ++ put (7 + length one) b.actor action ∷ []) is_second)
+
+pub short_round : (old two : List Line) (number round : ℕ) → two ≡ old ++ numbered (7 + length old) (supplies (page_in number) ∷ accesses number round ∷ [])
+    → (round % 16 ≡ 0 → ⊥) → two ≡ old ++ numbered (7 + length old) (round_of number round)
+short_round old two number round is other =
+    let test : (round % 16 == 0) ≡ false = grind (arith, nat_tests, other) in
+    is ∙ ap (λ b. old ++ numbered (7 + length old) (supplies (page_in number) ∷ accesses number round ∷ cond b writes_back [])) (sym test)
+
+pub long_round : (old two four : List Line) (number round : ℕ) → two ≡ old ++ numbered (7 + length old) (supplies (page_in number) ∷ accesses number round ∷ [])
+    → four ≡ two ++ numbered (7 + length two) writes_back → round % 16 ≡ 0 → four ≡ old ++ numbered (7 + length old) (round_of number round)
+long_round old two four number round to_two to_four sixteenth =
+    let test : (round % 16 == 0) ≡ true = grind (arith, nat_tests, sixteenth) in
+    four_more old two four (supplies (page_in number) ∷ accesses number round ∷ []) writes_back to_two to_four
+    ∙ ap (λ b. old ++ numbered (7 + length old) (supplies (page_in number) ∷ accesses number round ∷ cond b writes_back [])) (sym test)
+
+pub on_ok : {X E P Q : Type 0} (r : Result X E) → (P → Q) → OnOk r P → OnOk r Q
+on_ok (Ok x) step p = step p
+on_ok (Err e) step p = p
 
 -- each line is sound, and played by its actor
 abbrev actors : List ActorLine
@@ -134,3 +178,25 @@ generated_playable seed count = record {
   actors = refl;
   lines = played_numbered 7 (rounds seed count) (good_rounds seed count);
 }
+
+-- what a script is that has these
+abbrev script_with : List ObjectLine → List ActorLine → List Line → Script
+script_with objects actors lines = record {
+  frames = 64;
+  frames_line = 2;
+  loan = 0;
+  loan_line = 0;
+  warn = 16;
+  critical = 8;
+  objects = objects;
+  actors = actors;
+  lines = lines;
+}
+
+pub made_playable : (seed count : ℕ) (objects : List ObjectLine) (actors : List ActorLine) (lines : List Line) → objects ≡ generated_object ∷ [] → actors ≡ generated_user ∷ generated_pager ∷ []
+    → lines ≡ numbered 7 (rounds seed count) → IsPlayable (script_with objects actors lines)
+made_playable seed count objects actors lines os doers ls =
+    let e : script_with objects actors lines ≡ generated seed count =
+    ap (λ (o : List ObjectLine). script_with o actors lines) os ∙ ap (λ (a : List ActorLine). script_with (generated_object ∷ []) a lines) doers
+    ∙ ap (λ (l : List Line). script_with (generated_object ∷ []) (generated_user ∷ generated_pager ∷ []) l) ls in
+    subst IsPlayable (sym e) (generated_playable seed count)

@@ -1,5 +1,5 @@
 -- The script that is generated from a seed.
-use Rattle.std.specs.Prelude.{ℕ, ◌+◌, ◌*◌, ◌/◌, ◌%◌, ◌==◌, ◌++◌, Bool, true, false, cond, Option, None, List, [], ◌∷◌, zero, suc, replicate, codes}
+use Rattle.std.specs.Prelude.{ℕ, ◌+◌, ◌*◌, ◌/◌, ◌%◌, ◌==◌, ◌++◌, false, cond, None, List, [], ◌∷◌, zero, suc, replicate, codes}
 use Rattle.up_num.specs.Span.{Span}
 use Rattle.up_model.specs.declared.entry.Birth.{Birth}
 use Rattle.up_model.specs.declared.entry.Brought.TheVariants.{Nothing}

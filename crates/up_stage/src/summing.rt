@@ -70,8 +70,7 @@ fn pages_taken(reply: &Reply) -> u32
 }
 
 fn pages_evicted(reply: &Reply) -> u64
-    ensures value { result ≡ pages_evicted reply.now }
-    ensures bound { result < 9223372036854775808 }
+    ensures { result ≡ pages_evicted reply.now }
 {
     match reply {
         Reply::Pages(pages) => pages.len() as u64,

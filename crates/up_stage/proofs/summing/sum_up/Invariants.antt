@@ -13,6 +13,6 @@ invariant-loop-entry l = record {
   few_reads : l.reads ≤ l.entry-index;
   few_writes : l.writes ≤ l.entry-index;
   few_took : l.took ≤ l.entry-index * 4294967296;
-  few_evicted : l.evicted ≤ l.entry-index * 9223372036854775808;
+  few_evicted : l.evicted ≤ l.entry-index * 18446744073709551615;
   few_sum : l.sum ≤ l.entry-index * 256;
 }
