@@ -18,7 +18,7 @@ use Rattle.pagerd.specs.declared.top.Ended.{Ended}
 use Rattle.pagerd.specs.declared.top.Ended.TheVariants.{Written, Generated, Illegal, Words, Unread, Source, Sink, Memory}
 use Rattle.pagerd.specs.Built.{unbuilt_line}
 use Rattle.pagerd.specs.Generated.{IsGen, IsNoGen}
-use Rattle.pagerd.specs.Top.{IsStep, IsCheck, HasSummary, generated_line, HasFault, HasUnbuilt, HasJournalFault, SpellsLegal, SpellsIllegal, WasRead, IsScript, HasJournals, Took, whole_journals, text_fault, unbuilt_fault, legal_journals, illegal_journals, journals_fault, longest_script, status_of}
+use Rattle.pagerd.specs.Top.{IsStep, IsCheck, ToldFront, TookFront, generated_line, HasFault, HasUnbuilt, HasJournalFault, SpellsLegal, SpellsIllegal, WasRead, IsScript, HasJournals, Took, whole_journals, text_fault, unbuilt_fault, legal_journals, illegal_journals, journals_fault, longest_script, status_of}
 
 pub status_listed : (ended : Ended) → Contains (0 ∷ 1 ∷ 2 ∷ 3 ∷ 4 ∷ 5 ∷ 7 ∷ []) (status_of ended)
 status_listed Written = (0, lit< tt, refl)
@@ -225,14 +225,22 @@ zero_status Written is = inl refl
 zero_status Generated is = inr refl
 zero_status _ is = absurd cc
 
+pub two_status : (ended : Ended) → status_of ended ≡ 2 → ended ≡ Words
+two_status Words is = refl
+two_status _ is = absurd cc
+
+-- the words aren't this command's
+pub not_word : {Is : Type 0} (r : Bool) → (Is → IsTrue r) → r ≡ false → Is → ⊥
+not_word r yes_if is one = true≢false (sym (yes_if one) ∙ is)
+
 -- where a generated script was asked for
 abbrev pub IsAsked : Ended → Type 0
 IsAsked ended = (ended ≡ Generated) ⊎ ((ended ≡ Sink) ⊎ (ended ≡ Memory))
 
 pub asked_not_words : (ended : Ended) → IsAsked ended → status_of ended ≡ 2 → ⊥
-asked_not_words ended (inl is) two = let n : 0 ≡ 2 = ap status_of (sym is) ∙ two in omega arith
-asked_not_words ended (inr (inl is)) two = let n : 5 ≡ 2 = ap status_of (sym is) ∙ two in omega arith
-asked_not_words ended (inr (inr is)) two = let n : 7 ≡ 2 = ap status_of (sym is) ∙ two in omega arith
+asked_not_words ended (inl is) two = let n : ◌≡◌ {A = ℕ} 0 2 = ap status_of (sym is) ∙ two in omega arith
+asked_not_words ended (inr (inl is)) two = let n : ◌≡◌ {A = ℕ} 5 2 = ap status_of (sym is) ∙ two in omega arith
+asked_not_words ended (inr (inr is)) two = let n : ◌≡◌ {A = ℕ} 7 2 = ap status_of (sym is) ∙ two in omega arith
 
 pub ends_generated : (ended : Ended) → IsAsked ended → (ended ≡ Sink → ⊥) → (status_of ended ≡ 0) ⊎ (status_of ended ≡ 7)
 ends_generated ended (inl is) sink = inl (ap status_of is)
@@ -241,7 +249,12 @@ ends_generated ended (inr (inr is)) sink = inr (ap status_of is)
 
 -- gen and two numbers are no other command's words
 pub gen_no_one : (words : List (List ℕ)) (word : List ℕ) (seed count : ℕ) → IsGen words seed count → words ≡ word ∷ [] → ⊥
-gen_no_one words word seed count gen one = let n : 3 ≡ 1 = ap length (sym gen.are ∙ one) in omega arith
+gen_no_one words word seed count gen one = let n : ◌≡◌ {A = ℕ} 3 1 = ap length (sym gen.are ∙ one) in omega arith
 
 pub no_generated : (words : List (List ℕ)) (word : List ℕ) (left now before after : Option (List ℕ)) → words ≡ word ∷ [] → Took generated_line words left now before after → ⊥
 no_generated words word left now before after one t = gen_no_one words word t.is.0.seed t.is.0.count t.is.0.asked one
+
+-- the first bytes of what is told of a generated script that the words ask for
+pub front_generated : (words : List (List ℕ)) (left before after : Option (List ℕ)) (seed count : ℕ) → IsGen words seed count → ToldFront seed count before after → TookFront words left left before after
+front_generated words left before after seed count gen t =
+    record { text = t.text; front = t.front; output = generated_line; is = (record { seed = seed; count = count; asked = gen; told = t.is }, refl) }

@@ -3,4 +3,4 @@ pub mod Naming
 pub mod Endings
 pub mod Judging
 pub mod Building
-pub mod Summaries
+pub mod Asking

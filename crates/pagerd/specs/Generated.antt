@@ -12,8 +12,8 @@ pub record IsGen (words : List (List ℕ)) (seed count : ℕ) : Type 0 where
   pub first : List ℕ
   pub second : List ℕ
   pub are : words ≡ codes "gen" ∷ first ∷ second ∷ []
-  pub seed : number 18446744073709551615 first ≡ Some seed
-  pub count : number 12000 second ≡ Some count
+  pub is_seed : number 18446744073709551615 first ≡ Some seed
+  pub is_count : number 12000 second ≡ Some count
 
 -- the words aren't gen and two such numbers
 abbrev pub IsNoGen : List (List ℕ) → Type 0

@@ -1,4 +1,4 @@
-ghost use Rattle.std.specs.Prelude.{◌≡◌, ◌≢◌, ◌↔◌, [], ◌∷◌, List, ℕ, map, string_bytes, IsTrue, IfOk, IfErr, Some, ◌⊎◌, Contains};
+ghost use Rattle.std.specs.Prelude.{◌≡◌, ◌≢◌, ◌≤◌, ◌↔◌, [], ◌∷◌, List, ℕ, map, string_bytes, IsTrue, IfOk, IfErr, Some, ◌⊎◌, Contains};
 ghost use Rattle.up_outside.specs.Cause.{Rose};
 ghost use Rattle.up_text.specs.declared.journals.Named.{Named};
 ghost use Rattle.up_check.specs.Faults.{AreLegal};

@@ -1,6 +1,6 @@
 use Rattle.std.proofs.Common.{◌≡◌, ◌⊎◌, inl, inr, sym, subst, ◌∙◌, ℕ, [], ◌∷◌}
 use Rattle.std.specs.Prelude.{Contains}
-use Rattle.pagerd.proofs.Endings.{status_listed, ends_written, ends_illegal, ends_unread, no_script_done, no_journals_legal, no_journals_illegal, no_unread, no_illegal, no_journals_unread, not_illegal, not_legal, zero_status, asked_not_words, ends_generated, no_generated}
+use Rattle.pagerd.proofs.Endings.{status_listed, ends_written, ends_illegal, ends_unread, no_script_done, no_journals_legal, no_journals_illegal, no_unread, no_illegal, no_journals_unread, not_illegal, not_legal, zero_status, two_status, asked_not_words, ends_generated, no_generated}
 use Rattle.pagerd.proofs.top.alone.Goals as goal
 
 pub returns-clause-listed : goal.returns-clause-listed
@@ -36,6 +36,9 @@ returns-clause-done g c = λ zero. elim (zero_status c.run.result (sym c.status.
   | inl is ↦ inl (c.run.ensures.done is)
   | inr is ↦ inr (c.run.ensures.generated is)
 ]
+
+pub returns-clause-words : goal.returns-clause-words
+returns-clause-words g c = λ two. c.run.ensures.words (two_status c.run.result (sym c.status.ensures ∙ two))
 
 pub returns-clause-asked : goal.returns-clause-asked
 returns-clause-asked g c = λ seed count gen. let r = c.run.ensures.asked seed count gen in (λ two. asked_not_words c.run.result r.1 (sym c.status.ensures ∙ two), r.0)
