@@ -8,3 +8,4 @@ pub mod Lives
 pub mod Rules
 pub mod Frames
 pub mod Viewing
+pub mod Thread

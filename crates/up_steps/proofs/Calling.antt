@@ -1,0 +1,194 @@
+-- Of calls, replies and evicts: what bringing frames leaves as it is, and what evicts leave as it was.
+use Rattle.std.proofs.Common.{◌≡◌, ℕ, ◌+◌, ◌==◌, ◌||◌, ◌++◌, not, Bool, true, false, cond, is_some, Option, Some, None, List, [], ◌∷◌, refl, sym, ap, ◌∙◌, subst, arith, inl, inr}
+use Rattle.std.proofs.lemmas.Bool.Decides.{nat_tests}
+use Rattle.up_model.specs.declared.entry.Brought.{Brought}
+use Rattle.up_model.specs.declared.entry.Brought.TheVariants.{Nothing}
+use Rattle.up_model.specs.declared.entry.Call.{Call}
+use Rattle.up_model.specs.declared.entry.Call.TheVariants as calls
+use Rattle.up_model.specs.declared.entry.Reply.{Reply}
+use Rattle.up_model.specs.declared.entry.Reply.TheVariants as replies
+use Rattle.up_worker.specs.Calls.{bringing, frames_before, borrows}
+use Rattle.up_worker.specs.Frames.{Judge, front, behind}
+use Rattle.up_worker.specs.Lives.{Entered, is_evict, gives_pages, OwnEvicts}
+use Rattle.up_worker.specs.Wishes.{settles, is_refused, ticket_after, attempt}
+use Rattle.up_steps.specs.Asked.{parks, may_park, settled_in, ticket_in, refused_in, AreNext, supplied, AllBring}
+use Rattle.up_steps.specs.Steps.{Stops}
+use Rattle.up_steps.specs.Told.{last_parks}
+use Rattle.up_worker.specs.declared.course.Aim.{Aim}
+
+-- a call that brings something else
+before_brought : (b : Brought) (call : Call) → frames_before (bringing b call) ≡ frames_before call
+before_brought b (calls.Read piece last old) = refl
+before_brought b (calls.Write off bytes last old) = refl
+before_brought b (calls.Retry ticket old) = refl
+before_brought b (calls.Supply range bytes old) = refl
+before_brought b (calls.Dirty range old) = refl
+before_brought b (calls.Pin range old) = refl
+before_brought b (calls.Borrow page old) = refl
+before_brought b (calls.Vacate old) = refl
+before_brought b _ = refl
+
+borrows_brought : (b : Brought) (call : Call) → borrows (bringing b call) ≡ borrows call
+borrows_brought b (calls.Read piece last old) = refl
+borrows_brought b (calls.Write off bytes last old) = refl
+borrows_brought b (calls.Retry ticket old) = refl
+borrows_brought b (calls.Supply range bytes old) = refl
+borrows_brought b (calls.Dirty range old) = refl
+borrows_brought b (calls.Pin range old) = refl
+borrows_brought b (calls.Borrow page old) = refl
+borrows_brought b (calls.Vacate old) = refl
+borrows_brought b _ = refl
+
+parks_brought : (b : Brought) (call : Call) → may_park (bringing b call) ≡ may_park call
+parks_brought b (calls.Read piece last old) = refl
+parks_brought b (calls.Write off bytes last old) = refl
+parks_brought b (calls.Retry ticket old) = refl
+parks_brought b (calls.Supply range bytes old) = refl
+parks_brought b (calls.Dirty range old) = refl
+parks_brought b (calls.Pin range old) = refl
+parks_brought b (calls.Borrow page old) = refl
+parks_brought b (calls.Vacate old) = refl
+parks_brought b _ = refl
+
+-- a call that may park wants no frames by itself
+parks_plain : (call : Call) → may_park call ≡ true → frames_before call ≡ 0
+parks_plain (calls.Supply range bytes old) parks = absurd cc
+parks_plain _ parks = refl
+
+parks_borrows_none : (call : Call) → may_park call ≡ true → borrows call ≡ false
+parks_borrows_none (calls.Borrow page old) parks = absurd cc
+parks_borrows_none _ parks = refl
+
+borrows_plain : (call : Call) → borrows call ≡ true → frames_before call ≡ 0
+borrows_plain (calls.Borrow page old) is = refl
+borrows_plain (calls.Supply range bytes old) is = absurd cc
+borrows_plain _ is = refl
+
+pub supplied_none : (call : Call) → frames_before call ≡ 0 → supplied call ≡ None
+supplied_none call none = ap (λ n. cond (n == 0) None (Some n)) none
+
+pub parks_supplies_none : (call : Call) → may_park call ≡ true → supplied call ≡ None
+parks_supplies_none call parks = supplied_none call (parks_plain call parks)
+
+pub supplies_some : (call : Call) → (frames_before call == 0) ≡ false → supplied call ≡ Some (frames_before call)
+supplies_some call some = rw some refl
+
+by_borrow : (test : Bool) (call : Call) → borrows call ≡ test → (frames_before call == 0) ≡ false → test ≡ false
+by_borrow true call is some = absurd (let none = borrows_plain call is in let wrong : (frames_before call == 0) ≡ true = rw none refl in cc)
+by_borrow false call is some = refl
+
+pub supplies_borrow_none : (call : Call) → (frames_before call == 0) ≡ false → borrows call ≡ false
+supplies_borrow_none call some = by_borrow (borrows call) call refl some
+
+-- what is made for a call
+pub made_before : (b : Brought) (ticket : Option ℕ) (call : Call) → (is_some ticket ≡ true → may_park call ≡ true)
+    → frames_before (bringing b (attempt ticket call)) ≡ frames_before call
+made_before b None call parking = before_brought b call
+made_before b (Some ticket) call parking = sym (parks_plain call (parking refl))
+
+pub made_borrows : (b : Brought) (ticket : Option ℕ) (call : Call) → (is_some ticket ≡ true → may_park call ≡ true)
+    → borrows (bringing b (attempt ticket call)) ≡ borrows call
+made_borrows b None call parking = borrows_brought b call
+made_borrows b (Some ticket) call parking = sym (parks_borrows_none call (parking refl))
+
+pub made_parks : (b : Brought) (ticket : Option ℕ) (call : Call) → may_park (bringing b (attempt ticket call)) ≡ true
+    → (is_some ticket ≡ true → may_park call ≡ true) → may_park call ≡ true
+made_parks b None call parks parking = sym (parks_brought b call) ∙ parks
+made_parks b (Some ticket) call parks parking = parking refl
+
+-- a resize is made of a resize alone
+of_resize : (b : Brought) (call : Call) (pages : ℕ) → calls.Resize pages ≡ bringing b call → call ≡ calls.Resize pages
+of_resize b (calls.Read piece last old) pages is = absurd cc
+of_resize b (calls.Write off bytes last old) pages is = absurd cc
+of_resize b (calls.Retry ticket old) pages is = absurd cc
+of_resize b (calls.Supply range bytes old) pages is = absurd cc
+of_resize b (calls.Dirty range old) pages is = absurd cc
+of_resize b (calls.Pin range old) pages is = absurd cc
+of_resize b (calls.Borrow page old) pages is = absurd cc
+of_resize b (calls.Vacate old) pages is = absurd cc
+of_resize b call pages is = sym is
+
+pub resize_of : (ticket : Option ℕ) (b : Brought) (call : Call) (pages : ℕ) → calls.Resize pages ≡ bringing b (attempt ticket call) → call ≡ calls.Resize pages
+resize_of None b call pages is = of_resize b call pages is
+resize_of (Some ticket) b call pages is = absurd cc
+
+-- replies
+pub settled_parks_none : (reply : Reply) → settles reply ≡ true → parks reply ≡ false
+settled_parks_none (replies.Needs m) is = absurd cc
+settled_parks_none (replies.Blocked t) is = absurd cc
+settled_parks_none replies.Waiting is = absurd cc
+settled_parks_none _ is = refl
+
+pub unheld : (reply : Reply) (before : Option ℕ) → settles reply ≡ true → ticket_after reply before ≡ None
+unheld (replies.Needs m) before is = absurd cc
+unheld (replies.Blocked t) before is = absurd cc
+unheld replies.Waiting before is = absurd cc
+unheld _ before is = refl
+
+pages_park_none : (reply : Reply) → gives_pages reply ≡ true → parks reply ≡ false
+pages_park_none (replies.Pages pages) is = refl
+pages_park_none (replies.Blocked t) is = absurd cc
+pages_park_none replies.Waiting is = absurd cc
+pages_park_none _ is = refl
+
+pages_not_refused : (reply : Reply) → gives_pages reply ≡ true → is_refused reply ≡ false
+pages_not_refused (replies.Refused why) is = absurd cc
+pages_not_refused _ is = refl
+
+pub or_none : (b c : Bool) → b ≡ false → c ≡ false → (b || c) ≡ false
+or_none true c is other = absurd cc
+or_none false c is other = other
+
+or_same : (b c d : Bool) → b ≡ false → c ≡ d → (b || c) ≡ d
+or_same true c d is other = absurd cc
+or_same false c d is other = other
+
+-- evicts
+pub evicts_settle_none : (who : ℕ) (made t : List Entered) → OwnEvicts who made → settled_in (made ++ t) ≡ settled_in t
+evicts_settle_none who [] t own = refl
+evicts_settle_none who (x ∷ made) t own = let evict = own.1 in rw evict (evicts_settle_none who made t own.3)
+
+pub evicts_hold_none : (who : ℕ) (made t : List Entered) → OwnEvicts who made → ticket_in (made ++ t) ≡ ticket_in t
+evicts_hold_none who [] t own = refl
+evicts_hold_none who (x ∷ made) t own = let evict = own.1 in rw evict (evicts_hold_none who made t own.3)
+
+pub evicts_refuse_none : (who : ℕ) (made t : List Entered) → OwnEvicts who made → refused_in (made ++ t) ≡ refused_in t
+evicts_refuse_none who [] t own = refl
+evicts_refuse_none who (x ∷ made) t own =
+    or_same (is_refused x.entry.reply) (refused_in (made ++ t)) (refused_in t) (pages_not_refused x.entry.reply own.2) (evicts_refuse_none who made t own.3)
+
+pub evicts_next : (who : ℕ) (line : List Aim) (access : Bool) (made t : List Entered) → OwnEvicts who made → AreNext line access t → AreNext line access (made ++ t)
+evicts_next who line access [] t own next = next
+evicts_next who line access (x ∷ made) t own next = (evicts_next who line access made t own.3 next, λ no. absurd (let evict = own.1 in cc))
+
+pub evicts_bring : (who : ℕ) (j : Judge) (start made t : List Entered) → OwnEvicts who made → AllBring j start t → AllBring j start (made ++ t)
+evicts_bring who j start [] t own brings = brings
+evicts_bring who j start (x ∷ made) t own brings = (evicts_bring who j start made t own.3 brings, λ no. absurd (let evict = own.1 in cc))
+
+pub evicts_park_none : (who : ℕ) (made t : List Entered) → OwnEvicts who made → last_parks t ≡ false → last_parks (made ++ t) ≡ false
+evicts_park_none who [] t own none = none
+evicts_park_none who (x ∷ made) t own none = pages_park_none x.entry.reply own.2
+
+pub evicts_stop : (who : ℕ) (made t : List Entered) → OwnEvicts who made → last_parks t ≡ false → Stops t → Stops (made ++ t)
+evicts_stop who [] t own none stops = stops
+evicts_stop who (x ∷ made) t own none stops = (evicts_stop who made t own.3 none stops, evicts_park_none who made t own.3 none)
+
+-- evicts stand before the call for which they were made
+pub front_is : (who : ℕ) (made t : List Entered) → OwnEvicts who made → front t ≡ [] → front (made ++ t) ≡ made
+front_is who [] t own none = none
+front_is who (x ∷ made) t own none = let evict = own.1 in rw evict (ap (λ xs. x ∷ xs) (front_is who made t own.3 none))
+
+pub behind_same : (t : List Entered) → front t ≡ [] → behind t ≡ t
+behind_same [] none = refl
+behind_same (x ∷ t) none = by_test (is_evict x.entry.call) x t none
+  where
+    by_test : (test : Bool) (x : Entered) (t : List Entered) → cond test (x ∷ front t) [] ≡ [] → cond test (behind t) (x ∷ t) ≡ x ∷ t
+    by_test true x t none = absurd cc
+    by_test false x t none = refl
+
+pub behind_is : (who : ℕ) (made t : List Entered) → OwnEvicts who made → front t ≡ [] → behind (made ++ t) ≡ t
+behind_is who [] t own none = behind_same t none
+behind_is who (x ∷ made) t own none = let evict = own.1 in rw evict (behind_is who made t own.3 none)
+
+pub front_none : (x : Entered) (t : List Entered) → is_evict x.entry.call ≡ false → front (x ∷ t) ≡ []
+front_none x t evict = rw evict refl

@@ -1,0 +1,10 @@
+mod Answering
+mod Blocks
+mod Calling
+mod DevSaying
+mod Evicting
+mod Going
+mod Lining
+mod Owning
+mod Plainly
+mod Small

@@ -1,0 +1,11 @@
+use Rattle.up_steps.proofs.Small.{refuses_more, refuses_other, refuses_nothing}
+use Rattle.up_steps.proofs.laws.other_entries_are_no_steps.Goals as goal
+
+pub returns-clause-more : goal.returns-clause-more
+returns-clause-more c = refuses_more
+
+pub returns-clause-other : goal.returns-clause-other
+returns-clause-other c = refuses_other
+
+pub returns-clause-nothing : goal.returns-clause-nothing
+returns-clause-nothing c = refuses_nothing

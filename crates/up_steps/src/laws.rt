@@ -1,0 +1,21 @@
+//! What follows where one thread does what actors wish, line by line.
+
+ghost use Rattle.up_steps.specs.Laws.{StepsFollow};
+ghost use Rattle.up_steps.specs.Row.{IsOneThreads, RefusesMore, RefusesOther, RefusesNothing};
+
+/// Where each event follows on what its actor said, is done exactly, and the lines are gone through in order, all entries are the steps of these lines.
+pub fn doing_wishes_makes_the_steps()
+    ensures { StepsFollow }
+{}
+
+/// A read that blocks, a packet, a supply and a go, as they happen, are one thread's.
+pub fn a_small_script_is_done_so()
+    ensures { IsOneThreads }
+{}
+
+/// One frame too many, an entry of another actor, and a line that isn't done are no steps of a line.
+pub fn other_entries_are_no_steps()
+    ensures more { RefusesMore }
+    ensures other { RefusesOther }
+    ensures nothing { RefusesNothing }
+{}
