@@ -15,12 +15,14 @@ use Rattle.up_check.proofs.Illegal.{no_first}
 use Rattle.std.proofs.lemmas.Slice.Eq.{bytes_eq-Decides}
 use Rattle.std.specs.Prelude.{Contains, codes}
 use Rattle.pagerd.specs.declared.top.Ended.{Ended}
-use Rattle.pagerd.specs.declared.top.Ended.TheVariants.{Written, Illegal, Words, Unread, Source, Sink, Memory}
+use Rattle.pagerd.specs.declared.top.Ended.TheVariants.{Written, Generated, Illegal, Words, Unread, Source, Sink, Memory}
 use Rattle.pagerd.specs.Built.{unbuilt_line}
-use Rattle.pagerd.specs.Top.{IsStep, IsCheck, HasFault, HasUnbuilt, HasJournalFault, SpellsLegal, SpellsIllegal, WasRead, IsScript, HasJournals, Took, whole_journals, text_fault, unbuilt_fault, legal_journals, illegal_journals, journals_fault, longest_script, status_of}
+use Rattle.pagerd.specs.Generated.{IsGen, IsNoGen}
+use Rattle.pagerd.specs.Top.{IsStep, IsCheck, HasSummary, generated_line, HasFault, HasUnbuilt, HasJournalFault, SpellsLegal, SpellsIllegal, WasRead, IsScript, HasJournals, Took, whole_journals, text_fault, unbuilt_fault, legal_journals, illegal_journals, journals_fault, longest_script, status_of}
 
 pub status_listed : (ended : Ended) → Contains (0 ∷ 1 ∷ 2 ∷ 3 ∷ 4 ∷ 5 ∷ 7 ∷ []) (status_of ended)
 status_listed Written = (0, lit< tt, refl)
+status_listed Generated = (0, lit< tt, refl)
 status_listed Illegal = (1, lit< tt, refl)
 status_listed Words = (2, lit< tt, refl)
 status_listed Unread = (3, lit< tt, refl)
@@ -150,6 +152,7 @@ not_legal words left now before after journals check s illegal (inr t) =
 pub ends_written : (ended : Ended) → (ended ≡ Illegal → ⊥) → (ended ≡ Words → ⊥) → (ended ≡ Unread → ⊥) → (ended ≡ Source → ⊥) → (ended ≡ Sink → ⊥) →
     (status_of ended ≡ 0) ⊎ (status_of ended ≡ 7)
 ends_written Written illegal words unread source sink = inl refl
+ends_written Generated illegal words unread source sink = inl refl
 ends_written Illegal illegal words unread source sink = absurd (illegal refl)
 ends_written Words illegal words unread source sink = absurd (words refl)
 ends_written Unread illegal words unread source sink = absurd (unread refl)
@@ -158,15 +161,16 @@ ends_written Sink illegal words unread source sink = absurd (sink refl)
 ends_written Memory illegal words unread source sink = inr refl
 
 -- where nothing else is left, an entry at fault was told or memory ran out
-pub ends_illegal : (ended : Ended) → (ended ≡ Written → ⊥) → (ended ≡ Words → ⊥) → (ended ≡ Unread → ⊥) → (ended ≡ Source → ⊥) → (ended ≡ Sink → ⊥) →
+pub ends_illegal : (ended : Ended) → (ended ≡ Written → ⊥) → (ended ≡ Generated → ⊥) → (ended ≡ Words → ⊥) → (ended ≡ Unread → ⊥) → (ended ≡ Source → ⊥) → (ended ≡ Sink → ⊥) →
     (status_of ended ≡ 1) ⊎ (status_of ended ≡ 7)
-ends_illegal Written written words unread source sink = absurd (written refl)
-ends_illegal Illegal written words unread source sink = inl refl
-ends_illegal Words written words unread source sink = absurd (words refl)
-ends_illegal Unread written words unread source sink = absurd (unread refl)
-ends_illegal Source written words unread source sink = absurd (source refl)
-ends_illegal Sink written words unread source sink = absurd (sink refl)
-ends_illegal Memory written words unread source sink = inr refl
+ends_illegal Written written generated words unread source sink = absurd (written refl)
+ends_illegal Generated written generated words unread source sink = absurd (generated refl)
+ends_illegal Illegal written generated words unread source sink = inl refl
+ends_illegal Words written generated words unread source sink = absurd (words refl)
+ends_illegal Unread written generated words unread source sink = absurd (unread refl)
+ends_illegal Source written generated words unread source sink = absurd (source refl)
+ends_illegal Sink written generated words unread source sink = absurd (sink refl)
+ends_illegal Memory written generated words unread source sink = inr refl
 
 -- what was read and spells something is what the source had
 spells_left : (limit : ℕ) (left now : Option (List ℕ)) (all bytes : List ℕ) → left ≡ Some all → nat_le (length bytes) limit ≡ true → WasRead limit left now bytes → left ≡ Some bytes
@@ -204,12 +208,40 @@ no_journals_illegal words left now before after all told other t =
     other made.is.journals (record { bytes = made.bytes; told = spells_left longest_text left now all made.bytes told (journals_fit made.bytes made.is.journals made.is.spelled) made.read; spelled = made.is.spelled })
 
 -- where nothing else is left, a fault was told or memory ran out
-pub ends_unread : (ended : Ended) → (ended ≡ Written → ⊥) → (ended ≡ Illegal → ⊥) → (ended ≡ Words → ⊥) → (ended ≡ Source → ⊥) → (ended ≡ Sink → ⊥) →
+pub ends_unread : (ended : Ended) → (ended ≡ Written → ⊥) → (ended ≡ Generated → ⊥) → (ended ≡ Illegal → ⊥) → (ended ≡ Words → ⊥) → (ended ≡ Source → ⊥) → (ended ≡ Sink → ⊥) →
     (status_of ended ≡ 3) ⊎ (status_of ended ≡ 7)
-ends_unread Written written illegal words source sink = absurd (written refl)
-ends_unread Illegal written illegal words source sink = absurd (illegal refl)
-ends_unread Words written illegal words source sink = absurd (words refl)
-ends_unread Unread written illegal words source sink = inl refl
-ends_unread Source written illegal words source sink = absurd (source refl)
-ends_unread Sink written illegal words source sink = absurd (sink refl)
-ends_unread Memory written illegal words source sink = inr refl
+ends_unread Written written generated illegal words source sink = absurd (written refl)
+ends_unread Generated written generated illegal words source sink = absurd (generated refl)
+ends_unread Illegal written generated illegal words source sink = absurd (illegal refl)
+ends_unread Words written generated illegal words source sink = absurd (words refl)
+ends_unread Unread written generated illegal words source sink = inl refl
+ends_unread Source written generated illegal words source sink = absurd (source refl)
+ends_unread Sink written generated illegal words source sink = absurd (sink refl)
+ends_unread Memory written generated illegal words source sink = inr refl
+
+-- at status 0 all is written, or a generated script is done
+pub zero_status : (ended : Ended) → status_of ended ≡ 0 → (ended ≡ Written) ⊎ (ended ≡ Generated)
+zero_status Written is = inl refl
+zero_status Generated is = inr refl
+zero_status _ is = absurd cc
+
+-- where a generated script was asked for
+abbrev pub IsAsked : Ended → Type 0
+IsAsked ended = (ended ≡ Generated) ⊎ ((ended ≡ Sink) ⊎ (ended ≡ Memory))
+
+pub asked_not_words : (ended : Ended) → IsAsked ended → status_of ended ≡ 2 → ⊥
+asked_not_words ended (inl is) two = let n : 0 ≡ 2 = ap status_of (sym is) ∙ two in omega arith
+asked_not_words ended (inr (inl is)) two = let n : 5 ≡ 2 = ap status_of (sym is) ∙ two in omega arith
+asked_not_words ended (inr (inr is)) two = let n : 7 ≡ 2 = ap status_of (sym is) ∙ two in omega arith
+
+pub ends_generated : (ended : Ended) → IsAsked ended → (ended ≡ Sink → ⊥) → (status_of ended ≡ 0) ⊎ (status_of ended ≡ 7)
+ends_generated ended (inl is) sink = inl (ap status_of is)
+ends_generated ended (inr (inl is)) sink = absurd (sink is)
+ends_generated ended (inr (inr is)) sink = inr (ap status_of is)
+
+-- gen and two numbers are no other command's words
+pub gen_no_one : (words : List (List ℕ)) (word : List ℕ) (seed count : ℕ) → IsGen words seed count → words ≡ word ∷ [] → ⊥
+gen_no_one words word seed count gen one = let n : 3 ≡ 1 = ap length (sym gen.are ∙ one) in omega arith
+
+pub no_generated : (words : List (List ℕ)) (word : List ℕ) (left now before after : Option (List ℕ)) → words ≡ word ∷ [] → Took generated_line words left now before after → ⊥
+no_generated words word left now before after one t = gen_no_one words word t.is.0.seed t.is.0.count t.is.0.asked one

@@ -1,9 +1,6 @@
 pub mod Failing
-pub mod Staging
-pub mod Blocks
-pub mod Making
 pub mod Naming
 pub mod Endings
 pub mod Judging
-pub mod Owned
-pub mod Housing
+pub mod Building
+pub mod Summaries

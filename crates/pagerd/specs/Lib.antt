@@ -1,10 +1,5 @@
 pub mod Text
-pub mod Steps
 pub mod Built
-pub mod Stage
-pub mod Standing
 pub mod Journals
+pub mod Generated
 pub mod Top
-pub mod Homes
-pub mod Pools
-pub mod Housed

@@ -8,8 +8,9 @@ use Rattle.up_script.specs.declared.script.Script.{Script}
 use Rattle.pagerd.specs.declared.top.Answer.{Answer}
 use Rattle.pagerd.specs.declared.top.Answer.TheVariants.{Journals, Bad, Unbuilt}
 use Rattle.pagerd.specs.declared.top.Ended.{Ended}
-use Rattle.pagerd.specs.declared.top.Ended.TheVariants.{Written, Illegal as IllegalEnding, Words, Unread, Source, Sink, Memory}
+use Rattle.pagerd.specs.declared.top.Ended.TheVariants.{Written, Generated, Illegal as IllegalEnding, Words, Unread, Source, Sink, Memory}
 use Rattle.pagerd.specs.Built.{unbuilt_line}
+use Rattle.pagerd.specs.Generated.{IsGen, IsNoGen, Summarizes}
 use Rattle.pagerd.specs.Journals.{MakesJournals}
 use Rattle.pagerd.specs.Text.{fault_text, why_text, illegal_text}
 use Rattle.pagerd.specs.declared.checking.Judgement.{Judgement}
@@ -129,8 +130,15 @@ pub record HasJournals (left : Option (List ℕ)) (journals : List Named) : Type
   pub told : left ≡ Some bytes
   pub spelled : journals_of bytes ≡ Ok journals
 
--- what a call has to write: the journals of its script, that its words are neither step nor check, its script's fault, or its
--- first unbuilt line; or of journals that they are legal, the first entry at fault, or their text's fault
+-- these words ask for a generated script, and this line tells of its journal
+pub record HasSummary (words : List (List ℕ)) (text : List ℕ) : Type 0 where
+  pub seed : ℕ
+  pub count : ℕ
+  pub asked : IsGen words seed count
+  pub told : Summarizes seed count text
+
+-- what a call has to write: the journals of its script, that its words are those of no command, its script's fault, or its
+-- first unbuilt line; of journals that they are legal, the first entry at fault, or their text's fault; or what a generated script makes
 pub data Output : Type 0 where
   whole_journals : Output
   words_fault : Output
@@ -139,16 +147,18 @@ pub data Output : Type 0 where
   legal_journals : Output
   illegal_journals : Output
   journals_fault : Output
+  generated_line : Output
 
 -- the text that a call has to write, and what calls for it: the words, and what the source had left before and has left now
 abbrev pub IsText : Output → List (List ℕ) → Option (List ℕ) → Option (List ℕ) → List ℕ → Type 0
 IsText whole_journals words left_before left_now text = IsStep words × Makes longest_script Spells left_before left_now text
-IsText words_fault words left_before left_now text = (IsStep words → ⊥) × (IsCheck words → ⊥) × (text ≡ codes "words\n")
+IsText words_fault words left_before left_now text = (IsStep words → ⊥) × (IsCheck words → ⊥) × IsNoGen words × (text ≡ codes "words\n")
 IsText text_fault words left_before left_now text = IsStep words × Makes longest_script HasFault left_before left_now text
 IsText unbuilt_fault words left_before left_now text = IsStep words × Makes longest_script HasUnbuilt left_before left_now text
 IsText legal_journals words left_before left_now text = IsCheck words × Makes longest_text SpellsLegal left_before left_now text
 IsText illegal_journals words left_before left_now text = IsCheck words × Makes longest_text SpellsIllegal left_before left_now text
 IsText journals_fault words left_before left_now text = IsCheck words × Makes longest_text HasJournalFault left_before left_now text
+IsText generated_line words left_before left_now text = HasSummary words text × (left_now ≡ left_before)
 
 -- the call had this to write, and the sink took all of its text
 pub record Took (output : Output) (words : List (List ℕ)) (left_before left_now written_before written_now : Option (List ℕ)) : Type 0 where
@@ -166,9 +176,21 @@ pub record TookFront (words : List (List ℕ)) (left_before left_now written_bef
 -- the number of a status
 abbrev pub status_of : Ended → ℕ
 status_of Written = 0
+status_of Generated = 0
 status_of IllegalEnding = 1
 status_of Words = 2
 status_of Unread = 3
 status_of Source = 4
 status_of Sink = 5
 status_of Memory = 7
+
+-- the sink took the line that tells of a generated script's journal, or some first bytes of it
+pub record Told (seed count : ℕ) (written_before written_now : Option (List ℕ)) : Type 0 where
+  pub text : List ℕ
+  pub is : Summarizes seed count text
+  pub took : Appends written_before written_now text
+
+pub record ToldFront (seed count : ℕ) (written_before written_now : Option (List ℕ)) : Type 0 where
+  pub text : List ℕ
+  pub is : Summarizes seed count text
+  pub front : AppendsFront written_before written_now text

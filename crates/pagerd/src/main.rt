@@ -1,5 +1,5 @@
 //! The program `pagerd`: it reads a script from standard input, does it on one thread, and writes the journals of its
-//! objects to standard output; or it reads journals and tells whether they are legal.
+//! objects to standard output; or it reads journals and tells whether they are legal; or it does a script that it makes of a number.
 #![tactic(auto)]
 
 ghost use Rattle.std.specs.Prelude.{[], ◌∷◌, Contains};
@@ -8,10 +8,9 @@ ghost use Rattle.std.specs.Process.{exit_status};
 mod advice;
 mod built;
 mod checking;
-mod homes;
+mod generated;
+mod journals;
 mod keeping;
-mod pool;
-mod steps;
 #[cfg(test)]
 mod tests;
 mod text;
@@ -97,10 +96,14 @@ fn print_fault(rt: &HostRuntime, alloc: Global, told: &[u8]) -> io::Result<()> {
 fn print_usage(rt: &HostRuntime) -> io::Result<()> {
     eprintln!(rt; "usage: pagerd step < SCRIPT")?;
     eprintln!(rt; "       pagerd check < JOURNALS")?;
+    eprintln!(rt; "       pagerd gen SEED COUNT")?;
     eprintln!(rt; "  step   does the lines of a script in file order, on one thread,")?;
     eprintln!(rt; "         and prints its objects' journals")?;
     eprintln!(rt;
         "  check  says whether journals are legal, or which entry is the first at fault"
+    )?;
+    eprintln!(rt;
+        "  gen    does a script that it makes of the number SEED, of COUNT rounds, and sums its journal up"
     )?;
     eprintln!(rt;
         "status: 0 done, or legal; 1 not legal; 2 other words than these; 3 the text has a"

@@ -2,11 +2,13 @@ ghost use Rattle.std.specs.Prelude.{◌≡◌, ◌≢◌, ◌↔◌, [], ◌∷�
 ghost use Rattle.up_outside.specs.Cause.{Rose};
 ghost use Rattle.up_text.specs.declared.journals.Named.{Named};
 ghost use Rattle.up_check.specs.Faults.{AreLegal};
-ghost use Rattle.pagerd.specs.Top.{IsStep, IsCheck, IsSaid, IsAnswer, IsScript, HasJournals, Took, TookFront, whole_journals, words_fault, text_fault, unbuilt_fault, legal_journals, illegal_journals, journals_fault, status_of};
+ghost use Rattle.pagerd.specs.Generated.{IsGen, IsNoGen};
+ghost use Rattle.pagerd.specs.Top.{IsStep, IsCheck, Told, ToldFront, generated_line, IsSaid, IsAnswer, IsScript, HasJournals, Took, TookFront, whole_journals, words_fault, text_fault, unbuilt_fault, legal_journals, illegal_journals, journals_fault, status_of};
 
 use crate::built::find_unbuilt;
 use crate::checking::{Judgement, judge};
-use crate::steps::journals_of;
+use crate::generated::{Seed, read_seed, told_of};
+use crate::journals::journals_of;
 use crate::text::{fault_at, why_word};
 use std::alloc::Global;
 use up_num::Memory;
@@ -23,8 +25,9 @@ const TEXT: usize = 4_194_304;
 /// |---|---|---|
 /// | 0 | `step`: all was done and written | the journals' text |
 /// | 0 | `check`: the journals are legal | `legal` |
+/// | 0 | `gen SEED COUNT`: the generated script was done | the line that tells of its journal |
 /// | 1 | `check`: the journals aren't legal | `illegal NAME ENTRY expected REPLY`, or `illegal NAME ENTRY improper`, of the first entry at fault |
-/// | 2 | the words are neither the one word `step` nor the one word `check` | `words` |
+/// | 2 | the words are neither the one word `step` nor the one word `check`, nor `gen` and two numbers within their limits | `words` |
 /// | 3 | the text is outside its grammar or a limit | `fault LINE WHY`, the first fault |
 /// | 3 | `step`: a line has a form that isn't built yet | `fault LINE unbuilt`, the first such line |
 /// | 4 | only where the source failed | nothing |
@@ -36,7 +39,7 @@ pub fn alone<S: Source, K: Sink>(
     source: &mut S,
     sink: &mut K,
 ) -> u8
-    ensures done { result ≡ 0 → (Took whole_journals (map string_bytes words.now) (S.left source.old) (S.left source.new) (K.written sink.old) (K.written sink.new)) ⊎ (Took legal_journals (map string_bytes words.now) (S.left source.old) (S.left source.new) (K.written sink.old) (K.written sink.new)) }
+    ensures done { result ≡ 0 → ((Took whole_journals (map string_bytes words.now) (S.left source.old) (S.left source.new) (K.written sink.old) (K.written sink.new)) ⊎ (Took legal_journals (map string_bytes words.now) (S.left source.old) (S.left source.new) (K.written sink.old) (K.written sink.new))) ⊎ (Took generated_line (map string_bytes words.now) (S.left source.old) (S.left source.new) (K.written sink.old) (K.written sink.new)) }
     ensures illegal { result ≡ 1 → Took illegal_journals (map string_bytes words.now) (S.left source.old) (S.left source.new) (K.written sink.old) (K.written sink.new) }
     ensures words { result ≡ 2 → Took words_fault (map string_bytes words.now) (S.left source.old) (S.left source.new) (K.written sink.old) (K.written sink.new) }
     ensures unread { result ≡ 3 → (Took text_fault (map string_bytes words.now) (S.left source.old) (S.left source.new) (K.written sink.old) (K.written sink.new)) ⊎ ((Took unbuilt_fault (map string_bytes words.now) (S.left source.old) (S.left source.new) (K.written sink.old) (K.written sink.new)) ⊎ (Took journals_fault (map string_bytes words.now) (S.left source.old) (S.left source.new) (K.written sink.old) (K.written sink.new))) }
@@ -47,9 +50,13 @@ pub fn alone<S: Source, K: Sink>(
     // The words alone decide on status 2, before any read.
     ensures step { IsStep (map string_bytes words.now) → result ≢ 2 }
     ensures check { IsCheck (map string_bytes words.now) → result ≢ 2 }
-    ensures neither { (IsStep (map string_bytes words.now) → ⊥) → (IsCheck (map string_bytes words.now) → ⊥) → ((result ≡ 2) ⊎ (result ≡ 5)) × (source.new ≡ source.old) }
+    ensures asked { (seed count : ℕ) → IsGen (map string_bytes words.now) seed count → (result ≢ 2) × (source.new ≡ source.old) }
+    ensures neither { (IsStep (map string_bytes words.now) → ⊥) → (IsCheck (map string_bytes words.now) → ⊥) → IsNoGen (map string_bytes words.now) → ((result ≡ 2) ⊎ (result ≡ 5)) × (source.new ≡ source.old) }
     ensures complete { IsStep (map string_bytes words.now) → IsScript (S.left source.old)
         → (Rose (S.faults source.old) (S.faults source.new) → ⊥) → (Rose (K.faults sink.old) (K.faults sink.new) → ⊥) → (result ≡ 0) ⊎ (result ≡ 7) }
+
+    // A generated script is always done.
+    ensures generated { (seed count : ℕ) → IsGen (map string_bytes words.now) seed count → (Rose (K.faults sink.old) (K.faults sink.new) → ⊥) → (result ≡ 0) ⊎ (result ≡ 7) }
 
     // Where neither count rose, journals are told to be legal exactly where they are.
     ensures right { (journals : List Named) → IsCheck (map string_bytes words.now) → HasJournals (S.left source.old) journals → AreLegal journals
@@ -70,6 +77,7 @@ pub fn alone<S: Source, K: Sink>(
 /// How a command ended.
 enum Ended {
     Written,
+    Generated,
     Illegal,
     Words,
     Unread,
@@ -83,6 +91,7 @@ fn status(ended: Ended) -> u8
 {
     match ended {
         Ended::Written => 0,
+        Ended::Generated => 0,
         Ended::Illegal => 1,
         Ended::Words => 2,
         Ended::Unread => 3,
@@ -94,6 +103,7 @@ fn status(ended: Ended) -> u8
 
 fn run<S: Source, K: Sink>(alloc: Global, words: &[String], source: &mut S, sink: &mut K) -> Ended
     ensures done { result ≡ Ended.Written → (Took whole_journals (map string_bytes words.now) (S.left source.old) (S.left source.new) (K.written sink.old) (K.written sink.new)) ⊎ (Took legal_journals (map string_bytes words.now) (S.left source.old) (S.left source.new) (K.written sink.old) (K.written sink.new)) }
+    ensures generated { result ≡ Ended.Generated → Took generated_line (map string_bytes words.now) (S.left source.old) (S.left source.new) (K.written sink.old) (K.written sink.new) }
     ensures illegal { result ≡ Ended.Illegal → Took illegal_journals (map string_bytes words.now) (S.left source.old) (S.left source.new) (K.written sink.old) (K.written sink.new) }
     ensures words { result ≡ Ended.Words → Took words_fault (map string_bytes words.now) (S.left source.old) (S.left source.new) (K.written sink.old) (K.written sink.new) }
     ensures unread { result ≡ Ended.Unread → (Took text_fault (map string_bytes words.now) (S.left source.old) (S.left source.new) (K.written sink.old) (K.written sink.new)) ⊎ ((Took unbuilt_fault (map string_bytes words.now) (S.left source.old) (S.left source.new) (K.written sink.old) (K.written sink.new)) ⊎ (Took journals_fault (map string_bytes words.now) (S.left source.old) (S.left source.new) (K.written sink.old) (K.written sink.new))) }
@@ -102,13 +112,17 @@ fn run<S: Source, K: Sink>(alloc: Global, words: &[String], source: &mut S, sink
     ensures memory { result ≡ Ended.Memory → sink.new ≡ sink.old }
     ensures step { IsStep (map string_bytes words.now) → result ≢ Ended.Words }
     ensures check { IsCheck (map string_bytes words.now) → result ≢ Ended.Words }
-    ensures neither { (IsStep (map string_bytes words.now) → ⊥) → (IsCheck (map string_bytes words.now) → ⊥) → ((result ≡ Ended.Words) ⊎ (result ≡ Ended.Sink)) × (source.new ≡ source.old) }
+    ensures asked { (seed count : ℕ) → IsGen (map string_bytes words.now) seed count → (source.new ≡ source.old) × ((result ≡ Ended.Generated) ⊎ ((result ≡ Ended.Sink) ⊎ (result ≡ Ended.Memory))) }
+    ensures neither { (IsStep (map string_bytes words.now) → ⊥) → (IsCheck (map string_bytes words.now) → ⊥) → IsNoGen (map string_bytes words.now) → ((result ≡ Ended.Words) ⊎ (result ≡ Ended.Sink)) × (source.new ≡ source.old) }
 {
     if is_word(words, "step") {
         return run_step(alloc, source, sink);
     }
     if is_word(words, "check") {
         return run_check(alloc, source, sink);
+    }
+    if let Some(asked) = read_seed(words) {
+        return run_gen(alloc, asked, sink);
     }
     match push_all(sink, b"words\n") {
         Ok(()) => Ended::Words,
@@ -131,7 +145,7 @@ fn run_step<S: Source, K: Sink>(alloc: Global, source: &mut S, sink: &mut K) -> 
     ensures source { result ≡ Ended.Source → Rose (S.faults source.old) (S.faults source.new) × (sink.new ≡ sink.old) }
     ensures sink { (words : List (List ℕ)) → IsStep words → result ≡ Ended.Sink → Rose (K.faults sink.old) (K.faults sink.new) × TookFront words (S.left source.old) (S.left source.new) (K.written sink.old) (K.written sink.new) }
     ensures memory { result ≡ Ended.Memory → sink.new ≡ sink.old }
-    ensures others { (result ≢ Ended.Words) × (result ≢ Ended.Illegal) }
+    ensures others { (result ≢ Ended.Words) × ((result ≢ Ended.Illegal) × (result ≢ Ended.Generated)) }
 {
     let answer = match step(alloc, source) {
         Ok(answer) => answer,
@@ -161,7 +175,7 @@ fn run_check<S: Source, K: Sink>(alloc: Global, source: &mut S, sink: &mut K) ->
     ensures source { result ≡ Ended.Source → Rose (S.faults source.old) (S.faults source.new) × (sink.new ≡ sink.old) }
     ensures sink { (words : List (List ℕ)) → IsCheck words → result ≡ Ended.Sink → Rose (K.faults sink.old) (K.faults sink.new) × TookFront words (S.left source.old) (S.left source.new) (K.written sink.old) (K.written sink.new) }
     ensures memory { result ≡ Ended.Memory → sink.new ≡ sink.old }
-    ensures others { result ≢ Ended.Words }
+    ensures others { (result ≢ Ended.Words) × (result ≢ Ended.Generated) }
 {
     let judgement = match judge(alloc, source) {
         Ok(judgement) => judgement,
@@ -181,6 +195,22 @@ fn run_check<S: Source, K: Sink>(alloc: Global, source: &mut S, sink: &mut K) ->
             Ok(()) => Ended::Unread,
             Err(_) => Ended::Sink,
         },
+    }
+}
+
+fn run_gen<K: Sink>(alloc: Global, asked: Seed, sink: &mut K) -> Ended
+    requires { asked.rounds ≤ 12000 }
+    ensures generated { result ≡ Ended.Generated → Told asked.seed asked.rounds (K.written sink.old) (K.written sink.new) }
+    ensures sink { result ≡ Ended.Sink → Rose (K.faults sink.old) (K.faults sink.new) × ToldFront asked.seed asked.rounds (K.written sink.old) (K.written sink.new) }
+    ensures memory { result ≡ Ended.Memory → sink.new ≡ sink.old }
+    ensures others { (result ≡ Ended.Generated) ⊎ ((result ≡ Ended.Sink) ⊎ (result ≡ Ended.Memory)) }
+{
+    match told_of(alloc, asked) {
+        Ok(text) => match push_all(sink, text.as_slice()) {
+            Ok(()) => Ended::Generated,
+            Err(_) => Ended::Sink,
+        },
+        Err(_) => Ended::Memory,
     }
 }
 

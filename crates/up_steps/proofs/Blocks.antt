@@ -15,7 +15,7 @@ use Rattle.up_worker.specs.declared.course.Doing.TheVariants.{Idle, OneLine}
 use Rattle.up_worker.specs.declared.wish.Heard.TheVariants as heard
 use Rattle.up_worker.specs.declared.wish.Wish.{Wish}
 use Rattle.up_worker.specs.declared.wish.Wish.TheVariants as wishes
-use Rattle.up_steps.specs.Asked.{AreNext, IsDone}
+use Rattle.up_steps.specs.Asked.{without_evicts, AreNext, IsDone}
 use Rattle.up_steps.specs.Steps.{Setting, Moment, first_moment, moment_after, judge_at, AllBy, AllAt, IsFramed, IsFar, GoesFar}
 use Rattle.up_steps.specs.Told.{own, last_parks, parked, is_go, given_to, kind_at, objects_at, Told, ToldInPart}
 use Rattle.up_steps.specs.World.{Happening, happens, entries, events_of, actor_at, said_by, made_by, moment_at, moment_in, Follows, OneThread, is_park, rests, is_parked, GoesOn, AllAnswers, is_answer}
@@ -29,7 +29,7 @@ pub record Rested (s : Setting) (who : ℕ) (events : List Event) (t : List Ente
   pub old : List Entered
   pub earlier : List Doing
   pub lines_are : begun events ≡ (out_after s who events).acting.doing ∷ earlier
-  pub tale : t ≡ now ++ old
+  pub tale : without_evicts t ≡ now ++ old
   pub told : Told (kind_at s.actors who) (objects_at s.actors who) earlier old
   pub last : last_wish (out_after s who events).acting.doing ≡ wishes.LineEnd
   pub rests : rests (out_after s who events).said ≡ true
@@ -174,7 +174,7 @@ far_by false s lines who events g is st =
     let p = plainly_of s (first_moment s) who events g st.rested in
     let none = st.all is in
     let same : begun events ≡ given_to who lines = sym (st.given ∙ ap (λ ds. ds ++ begun events) none) in
-    subst (λ ds. Told (kind_at s.actors who) (objects_at s.actors who) ds (own who g)) same
+    subst (λ ds. Told (kind_at s.actors who) (objects_at s.actors who) ds (without_evicts (own who g))) same
     (told_more s (first_moment s) who g events g p (ends_at (out_after s who events).said st.rested.rests is))
   where
     ends_at : (said : Wish) → rests said ≡ true → is_park said ≡ false → said ≡ wishes.LineEnd

@@ -11,13 +11,13 @@ use Rattle.up_worker.specs.Calls.{bringing, frames_before, borrows}
 use Rattle.up_worker.specs.Frames.{Judge, front, behind}
 use Rattle.up_worker.specs.Lives.{Entered, is_evict, gives_pages, OwnEvicts}
 use Rattle.up_worker.specs.Wishes.{settles, is_refused, ticket_after, attempt}
-use Rattle.up_steps.specs.Asked.{parks, may_park, settled_in, ticket_in, refused_in, AreNext, supplied, AllBring}
+use Rattle.up_steps.specs.Asked.{parks, may_park, without_evicts, supplied, AllBring}
 use Rattle.up_steps.specs.Steps.{Stops}
 use Rattle.up_steps.specs.Told.{last_parks}
 use Rattle.up_worker.specs.declared.course.Aim.{Aim}
 
 -- a call that brings something else
-before_brought : (b : Brought) (call : Call) → frames_before (bringing b call) ≡ frames_before call
+pub before_brought : (b : Brought) (call : Call) → frames_before (bringing b call) ≡ frames_before call
 before_brought b (calls.Read piece last old) = refl
 before_brought b (calls.Write off bytes last old) = refl
 before_brought b (calls.Retry ticket old) = refl
@@ -28,7 +28,7 @@ before_brought b (calls.Borrow page old) = refl
 before_brought b (calls.Vacate old) = refl
 before_brought b _ = refl
 
-borrows_brought : (b : Brought) (call : Call) → borrows (bringing b call) ≡ borrows call
+pub borrows_brought : (b : Brought) (call : Call) → borrows (bringing b call) ≡ borrows call
 borrows_brought b (calls.Read piece last old) = refl
 borrows_brought b (calls.Write off bytes last old) = refl
 borrows_brought b (calls.Retry ticket old) = refl
@@ -131,35 +131,26 @@ pages_park_none (replies.Blocked t) is = absurd cc
 pages_park_none replies.Waiting is = absurd cc
 pages_park_none _ is = refl
 
-pages_not_refused : (reply : Reply) → gives_pages reply ≡ true → is_refused reply ≡ false
-pages_not_refused (replies.Refused why) is = absurd cc
-pages_not_refused _ is = refl
-
 pub or_none : (b c : Bool) → b ≡ false → c ≡ false → (b || c) ≡ false
 or_none true c is other = absurd cc
 or_none false c is other = other
 
-or_same : (b c d : Bool) → b ≡ false → c ≡ d → (b || c) ≡ d
-or_same true c d is other = absurd cc
-or_same false c d is other = other
-
 -- evicts
-pub evicts_settle_none : (who : ℕ) (made t : List Entered) → OwnEvicts who made → settled_in (made ++ t) ≡ settled_in t
-evicts_settle_none who [] t own = refl
-evicts_settle_none who (x ∷ made) t own = let evict = own.1 in rw evict (evicts_settle_none who made t own.3)
+pub evicts_gone : (who : ℕ) (made : List Entered) → OwnEvicts who made → without_evicts made ≡ []
+evicts_gone who [] own = refl
+evicts_gone who (x ∷ made) own = let evict = own.1 in rw evict (evicts_gone who made own.3)
 
-pub evicts_hold_none : (who : ℕ) (made t : List Entered) → OwnEvicts who made → ticket_in (made ++ t) ≡ ticket_in t
-evicts_hold_none who [] t own = refl
-evicts_hold_none who (x ∷ made) t own = let evict = own.1 in rw evict (evicts_hold_none who made t own.3)
+pub one_stays : (x : Entered) → is_evict x.entry.call ≡ false → without_evicts (x ∷ []) ≡ x ∷ []
+one_stays x evict = rw evict refl
 
-pub evicts_refuse_none : (who : ℕ) (made t : List Entered) → OwnEvicts who made → refused_in (made ++ t) ≡ refused_in t
-evicts_refuse_none who [] t own = refl
-evicts_refuse_none who (x ∷ made) t own =
-    or_same (is_refused x.entry.reply) (refused_in (made ++ t)) (refused_in t) (pages_not_refused x.entry.reply own.2) (evicts_refuse_none who made t own.3)
+append_by : (test : Bool) (x : Entered) (made t whole : List Entered) → whole ≡ made ++ t → cond test whole (x ∷ whole) ≡ cond test made (x ∷ made) ++ t
+append_by true x made t whole is = is
+append_by false x made t whole is = ap (λ xs. x ∷ xs) is
 
-pub evicts_next : (who : ℕ) (line : List Aim) (access : Bool) (made t : List Entered) → OwnEvicts who made → AreNext line access t → AreNext line access (made ++ t)
-evicts_next who line access [] t own next = next
-evicts_next who line access (x ∷ made) t own next = (evicts_next who line access made t own.3 next, λ no. absurd (let evict = own.1 in cc))
+pub without_append : (made t : List Entered) → without_evicts (made ++ t) ≡ without_evicts made ++ without_evicts t
+without_append [] t = refl
+without_append (x ∷ made) t =
+    append_by (is_evict x.entry.call) x (without_evicts made) (without_evicts t) (without_evicts (made ++ t)) (without_append made t)
 
 pub evicts_bring : (who : ℕ) (j : Judge) (start made t : List Entered) → OwnEvicts who made → AllBring j start t → AllBring j start (made ++ t)
 evicts_bring who j start [] t own brings = brings

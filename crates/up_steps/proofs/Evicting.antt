@@ -28,10 +28,11 @@ use Rattle.up_worker.specs.declared.wish.Wish.{Wish}
 use Rattle.up_worker.specs.declared.wish.Wish.TheVariants as wishes
 use Rattle.up_steps.proofs.DevSaying.{asks_again}
 use Rattle.up_steps.proofs.DevSaying.{after_unsettled}
-use Rattle.up_steps.specs.Asked.{may_park, AreNext, IsDone}
+use Rattle.up_steps.specs.Asked.{may_park, without_evicts, AreNext, IsDone}
 use Rattle.up_steps.specs.Steps.{Setting, Moment, moment_after, judge_at, AllBy, AllAt, Stops, AllMade}
 use Rattle.up_steps.specs.Told.{own, last_parks, kind_at, objects_at}
 use Rattle.up_steps.specs.World.{Happening, happens, entries, events_of, said_by, out_of, made_by, moment_at, moment_in, actor_at, moment_by, IsCarried, Follows, OneThread, GoesOn, AllAnswers, is_answer, is_parked, is_park, rests}
+use Rattle.up_steps.proofs.Calling.{without_append}
 use Rattle.up_steps.proofs.Going.{Says, Acts, Lasts, Going, ends_after, going_begins, going_hears}
 use Rattle.up_steps.proofs.Owning.{own_mine, all_by, all_at, carries_by, doing_next, objects_stay, events_mine}
 use Rattle.up_steps.proofs.Plainly.{out_after, judged_of}
@@ -140,7 +141,7 @@ pub record Evictor (s : Setting) (m : Moment) (who : ℕ) (start : List Entered)
   pub by : AllBy who made
   pub epoch : AllAt m.ages made
   pub doing : (out_after s who events).acting.doing ≡ OneLine action
-  pub going : Going (judge_at s m) start (out_after s who events).acting (out_after s who events).said made made (own who g)
+  pub going : Going (judge_at s m) start (out_after s who events).acting (out_after s who events).said (without_evicts made) made (own who g)
   pub timed : mo ≡ cond (is_end (out_after s who events).said) (moment_after s m who action g) m
 
 -- the moment after an answer to a call or a gathering
@@ -160,10 +161,10 @@ act_end a action reply one doing unless way is =
 resize_end : (a : Acting) (action : Action) (aim : Option Aim) → a.doing ≡ OneLine action → is_end (begins_call a.doing aim) ≡ true → last_of action ≡ wishes.LineEnd
 resize_end a action aim doing is = begins_end action aim (subst (λ d. is_end (begins_call d aim) ≡ true) doing is)
 
-timed_done : (s : Setting) (m : Moment) (who : ℕ) (a : Acting) (said : Wish) (made t : List Entered) (action : Action) (g : List Entered) (answer : Heard) (new : List Entered)
-    → a.doing ≡ OneLine action → Lasts a said made made t → DoneWithout answer new
+timed_done : (s : Setting) (m : Moment) (who : ℕ) (a : Acting) (said : Wish) (now made t : List Entered) (action : Action) (g : List Entered) (answer : Heard) (new : List Entered)
+    → a.doing ≡ OneLine action → Lasts a said now made t → DoneWithout answer new
     → moment_by s m who said g ≡ cond (is_end (next_wish a answer)) (moment_after s m who action (new ++ g)) m
-timed_done s m who a said made t action g answer new doing lasts does =
+timed_done s m who a said now made t action g answer new doing lasts does =
     let last : last_of action ≡ said = ap last_wish (sym doing) ∙ lasts.last in
     let ended : is_end (next_wish a heard.Done) ≡ true = ap is_end (ends_after a lasts.unticketed) in
     let here : moment_by s m who said g ≡ cond (is_end (next_wish a heard.Done)) (moment_after s m who action g) m =
@@ -180,26 +181,26 @@ timed_told s m who a action g new answer literal is last =
 gathered_end : (a : Acting) (one : Aim) (b : Brought) (action : Action) → under_way a ≡ Some one → is_end (next_wish a (heard.Brought b)) ≡ true → last_of action ≡ wishes.LineEnd
 gathered_end a one b action way is = absurd (let unless = makes_no_end (under_way a) one a.ticket b way in cc)
 
-timed_hears : (s : Setting) (m : Moment) (who : ℕ) (start : List Entered) (a : Acting) (said : Wish) (made t : List Entered) (action : Action) (g : List Entered) (answer : Heard) (new : List Entered)
-    → a.doing ≡ OneLine action → is_access_line action ≡ false → is_park said ≡ false → Says (judge_at s m) start a made made t said → Carries who said answer new
+timed_hears : (s : Setting) (m : Moment) (who : ℕ) (start : List Entered) (a : Acting) (said : Wish) (now made t : List Entered) (action : Action) (g : List Entered) (answer : Heard) (new : List Entered)
+    → a.doing ≡ OneLine action → is_access_line action ≡ false → is_park said ≡ false → Says (judge_at s m) start a now made t said → Carries who said answer new
     → moment_by s m who said g ≡ cond (is_end (next_wish a answer)) (moment_after s m who action (new ++ g)) m
-timed_hears s m who start a (wishes.Act object call) made t action g answer new doing unless free says does =
+timed_hears s m who start a (wishes.Act object call) now made t action g answer new doing unless free says does =
     timed_told s m who a action g new answer (heard.Replied does.entry.reply) does.told (λ is. act_end a action does.entry.reply says.one doing unless says.way is)
-timed_hears s m who start a (wishes.Resize object pages) made t action g answer new doing unless free says does =
+timed_hears s m who start a (wishes.Resize object pages) now made t action g answer new doing unless free says does =
     timed_told s m who a action g new answer (heard.Site (sites.Resized does.entry.reply)) does.told
     (λ is. resize_end a action (under_way (hears a (heard.Site (sites.Resized does.entry.reply)))) doing is)
-timed_hears s m who start a (wishes.Gather count) made t action g answer new doing unless free says does =
+timed_hears s m who start a (wishes.Gather count) now made t action g answer new doing unless free says does =
     timed_told s m who a action g new answer (heard.Brought does.brought) does.told (λ is. gathered_end a says.one does.brought action says.way is)
-timed_hears s m who start a wishes.Loan made t action g answer new doing unless free says does =
+timed_hears s m who start a wishes.Loan now made t action g answer new doing unless free says does =
     timed_told s m who a action g new answer (heard.Brought does.brought) does.told (λ is. gathered_end a says.1.one does.brought action says.1.way is)
-timed_hears s m who start a (wishes.Park object) made t action g answer new doing unless free says does = absurd cc
-timed_hears s m who start a wishes.Age made t action g answer new doing unless free says does = timed_done s m who a wishes.Age made t action g answer new doing says does
-timed_hears s m who start a wishes.Keep made t action g answer new doing unless free says does = timed_done s m who a wishes.Keep made t action g answer new doing says does
-timed_hears s m who start a wishes.Give made t action g answer new doing unless free says does = timed_done s m who a wishes.Give made t action g answer new doing says does
-timed_hears s m who start a (wishes.Relieve frames) made t action g answer new doing unless free says does = absurd says
-timed_hears s m who start a wishes.Watch made t action g answer new doing unless free says does = absurd says
-timed_hears s m who start a (wishes.Site object step) made t action g answer new doing unless free says does = absurd does
-timed_hears s m who start a wishes.LineEnd made t action g answer new doing unless free says does = absurd does
+timed_hears s m who start a (wishes.Park object) now made t action g answer new doing unless free says does = absurd cc
+timed_hears s m who start a wishes.Age now made t action g answer new doing unless free says does = timed_done s m who a wishes.Age now made t action g answer new doing says does
+timed_hears s m who start a wishes.Keep now made t action g answer new doing unless free says does = timed_done s m who a wishes.Keep now made t action g answer new doing says does
+timed_hears s m who start a wishes.Give now made t action g answer new doing unless free says does = timed_done s m who a wishes.Give now made t action g answer new doing says does
+timed_hears s m who start a (wishes.Relieve frames) now made t action g answer new doing unless free says does = absurd says
+timed_hears s m who start a wishes.Watch now made t action g answer new doing unless free says does = absurd says
+timed_hears s m who start a (wishes.Site object step) now made t action g answer new doing unless free says does = absurd does
+timed_hears s m who start a wishes.LineEnd now made t action g answer new doing unless free says does = absurd does
 
 unended : (who : ℕ) (said : Wish) (answer : Heard) (new : List Entered) → Carries who said answer new → is_end said ≡ false
 unended who wishes.LineEnd answer new does = absurd does
@@ -215,8 +216,8 @@ evictor_hears s m who start action events g mo answer new e unless free carried 
     let same : mo ≡ m = e.timed ∙ ap (λ b. cond b (moment_after s m who action g) m) (unended who said answer new carried.carries) in
     let c : IsCarried s m who said answer new g = subst (λ t. IsCarried s t who said answer new g) same carried in
     let mine = carries_by who said answer new c.carries in
-    let judged = judged_of s m start a e.made e.made (own who g) said answer new g e.going.says c.exact in
-    let step = going_hears (judge_at s m) start a said who e.made e.made (own who g) answer new e.going free c.carries
+    let judged = judged_of s m start a (without_evicts e.made) e.made (own who g) said answer new g e.going.says c.exact in
+    let step = going_hears (judge_at s m) start a said who (without_evicts e.made) e.made (own who g) answer new e.going free c.carries
     (subst (λ xs. JudgedWish (judge_at s m) said answer new xs) e.is judged) c.fair in
     record {
       made = new ++ e.made;
@@ -224,9 +225,10 @@ evictor_hears s m who start action events g mo answer new e unless free carried 
       by = all_by who new e.made mine e.by;
       epoch = all_at m.ages new e.made c.epoch e.epoch;
       doing = doing_next a answer ∙ e.doing;
-      going = subst (λ t. Going (judge_at s m) start (next_acting a answer) (next_wish a answer) (new ++ e.made) (new ++ e.made) t) (sym (own_mine who new g mine)) step;
+      going = subst (λ xs. Going (judge_at s m) start (next_acting a answer) (next_wish a answer) xs (new ++ e.made) (own who (new ++ g))) (sym (without_append new e.made))
+          (subst (λ t. Going (judge_at s m) start (next_acting a answer) (next_wish a answer) (without_evicts new ++ without_evicts e.made) (new ++ e.made) t) (sym (own_mine who new g mine)) step);
       timed = ap (λ t. moment_by s t who said g) same
-          ∙ timed_hears s m who start a said e.made (own who g) action g answer new e.doing unless free e.going.says c.carries;
+          ∙ timed_hears s m who start a said (without_evicts e.made) e.made (own who g) action g answer new e.doing unless free e.going.says c.carries;
     }
 
 evictor_more : (s : Setting) (m : Moment) (who : ℕ) (start : List Entered) (action : Action) (events : List Event) (g : List Entered) (mo : Moment) (event : Event)
@@ -279,17 +281,17 @@ pub record LineMade (s : Setting) (m : Moment) (who : ℕ) (start : List Entered
   pub tail : last_parks (own who g) ≡ false
   pub moment : mo ≡ moment_after s m who action g
 
-says_end : (s : Setting) (m : Moment) (who : ℕ) (start : List Entered) (a : Acting) (made t : List Entered) (said : Wish) (action : Action) → rests said ≡ true
+says_end : (s : Setting) (m : Moment) (who : ℕ) (start : List Entered) (a : Acting) (now made t : List Entered) (said : Wish) (action : Action) → rests said ≡ true
     → a.doing ≡ OneLine action → is_evictor (kind_at s.actors who) ≡ true → may_do (kind_at s.actors who) action ≡ true
-    → Going (judge_at s m) start a said made made t → said ≡ wishes.LineEnd
-says_end s m who start a made t (wishes.Park object) action rest doing evicts may going =
+    → Going (judge_at s m) start a said now made t → said ≡ wishes.LineEnd
+says_end s m who start a now made t (wishes.Park object) action rest doing evicts may going =
     let w = going.says in
     let there : slice_get (calls_in a.objects action) a.settled ≡ Some w.one = subst (λ d. slice_get (calls_of a.kind a.objects d) a.settled ≡ Some w.one) doing w.way in
     let parks = going.parking w.one w.way w.ticketed in
     let none = evictor_parks_none (kind_at s.actors who) a.objects action a.settled w.one evicts may there in
     absurd cc
-says_end s m who start a made t wishes.LineEnd action rest doing evicts may going = refl
-says_end s m who start a made t _ action rest doing evicts may going = absurd cc
+says_end s m who start a now made t wishes.LineEnd action rest doing evicts may going = refl
+says_end s m who start a now made t _ action rest doing evicts may going = absurd cc
 
 pub evictor_ends : (s : Setting) (m : Moment) (who : ℕ) (start : List Entered) (action : Action) (events : List Event) (g : List Entered) (mo : Moment)
     → Evictor s m who start action events g mo → rests (out_after s who events).said ≡ true → is_evictor (kind_at s.actors who) ≡ true
@@ -297,18 +299,18 @@ pub evictor_ends : (s : Setting) (m : Moment) (who : ℕ) (start : List Entered)
 evictor_ends s m who start action events g mo e rest evicts may =
     let a = (out_after s who events).acting in
     let said = (out_after s who events).said in
-    let ended = says_end s m who start a e.made (own who g) said action rest e.doing evicts may e.going in
-    let ends = subst (λ w. Says (judge_at s m) start a e.made e.made (own who g) w) ended e.going.says in
+    let ended = says_end s m who start a (without_evicts e.made) e.made (own who g) said action rest e.doing evicts may e.going in
+    let ends = subst (λ w. Says (judge_at s m) start a (without_evicts e.made) e.made (own who g) w) ended e.going.says in
     let objects : a.objects ≡ objects_at s.actors who = objects_stay (actor_at s who) events in
     let access = evictor_no_access (kind_at s.actors who) action evicts may in
-    let next : AreNext (calls_in (objects_at s.actors who) action) false e.made =
-    subst (λ b. AreNext (calls_in (objects_at s.actors who) action) b e.made) access
-    (subst (λ os. AreNext (calls_in os action) (is_access_line action) e.made) objects
-    (subst (λ d. AreNext (calls_of a.kind a.objects d) (is_access d) e.made) e.doing e.going.next)) in
-    let done : IsDone (calls_in (objects_at s.actors who) action) false e.made =
-    subst (λ b. IsDone (calls_in (objects_at s.actors who) action) b e.made) access
-    (subst (λ os. IsDone (calls_in os action) (is_access_line action) e.made) objects
-    (subst (λ d. IsDone (calls_of a.kind a.objects d) (is_access d) e.made) e.doing ends.done)) in
+    let next : AreNext (calls_in (objects_at s.actors who) action) false (without_evicts e.made) =
+    subst (λ b. AreNext (calls_in (objects_at s.actors who) action) b (without_evicts e.made)) access
+    (subst (λ os. AreNext (calls_in os action) (is_access_line action) (without_evicts e.made)) objects
+    (subst (λ d. AreNext (calls_of a.kind a.objects d) (is_access d) (without_evicts e.made)) e.doing e.going.next)) in
+    let done : IsDone (calls_in (objects_at s.actors who) action) false (without_evicts e.made) =
+    subst (λ b. IsDone (calls_in (objects_at s.actors who) action) b (without_evicts e.made)) access
+    (subst (λ os. IsDone (calls_in os action) (is_access_line action) (without_evicts e.made)) objects
+    (subst (λ d. IsDone (calls_of a.kind a.objects d) (is_access d) (without_evicts e.made)) e.doing ends.done)) in
     record {
       made = e.made;
       is = e.is;

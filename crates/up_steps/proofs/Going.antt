@@ -26,11 +26,11 @@ use Rattle.up_worker.specs.declared.wish.Wish.TheVariants as wishes
 use Rattle.up_steps.proofs.DevSaying.{good, is_for, access_keeps}
 use Rattle.up_steps.proofs.DevSaying.{asks_again}
 use Rattle.up_steps.proofs.DevSaying.{after_unsettled}
-use Rattle.up_steps.specs.Asked.{parks, may_park, settled_in, ticket_in, refused_in, IsNext, AreNext, IsDone, supplied, or_supplied, wanted, Comes, Brings, AllBring}
+use Rattle.up_steps.specs.Asked.{parks, may_park, without_evicts, settled_in, ticket_in, refused_in, IsNext, AreNext, IsDone, supplied, or_supplied, wanted, Comes, Brings, AllBring}
 use Rattle.up_steps.specs.Steps.{Stops}
 use Rattle.up_steps.specs.Told.{last_parks}
 use Rattle.up_steps.specs.World.{AllFair, is_park}
-use Rattle.up_steps.proofs.Calling.{supplied_none, parks_supplies_none, supplies_some, supplies_borrow_none, made_before, made_borrows, made_parks, resize_of, settled_parks_none, unheld, or_none, evicts_settle_none, evicts_hold_none, evicts_refuse_none, evicts_next, evicts_bring, evicts_park_none, evicts_stop, front_is, behind_same, behind_is, front_none}
+use Rattle.up_steps.proofs.Calling.{supplied_none, parks_supplies_none, supplies_some, supplies_borrow_none, made_before, made_borrows, made_parks, resize_of, settled_parks_none, unheld, or_none, evicts_gone, one_stays, evicts_bring, evicts_park_none, evicts_stop, front_is, behind_same, behind_is, front_none}
 
 abbrev pub aims : Acting → List Aim
 aims a = calls_of a.kind a.objects a.doing
@@ -199,13 +199,8 @@ going_begins j start a now made t doing quiet tail told calm brings stops stoppe
 abbrev Heard_of : Acting → Reply → Acting
 Heard_of a reply = next_acting a (heard.Replied reply)
 
-settled_more : (e s : Bool) (n m : ℕ) → e ≡ false → m ≡ n → cond s (m + 1) m ≡ cond (e || not s) n (n + 1)
-settled_more true s n m is same = absurd cc
-settled_more false true n m is same = ap (λ k. k + 1) same
-settled_more false false n m is same = same
-
-ticket_more : (x : Entered) (now : List Entered) → is_evict x.entry.call ≡ false → ticket_in (x ∷ now) ≡ ticket_after x.entry.reply (ticket_in now)
-ticket_more x now evict = rw evict refl
+settled_more : (s : Bool) (n m : ℕ) → m ≡ n → cond s (m + 1) m ≡ cond s (n + 1) n
+settled_more s n m same = ap (λ k. cond s (k + 1) k) same
 
 way_in : (a : Acting) (now : List Entered) (found : Option Aim) → a.settled ≡ settled_in now → under_way a ≡ found → slice_get (aims a) (settled_in now) ≡ found
 way_in a now found settled way = ap (λ n. slice_get (aims a) n) (sym settled) ∙ way
@@ -225,7 +220,7 @@ record Known (j : Judge) (start : List Entered) (a : Acting) (now made : List En
   parks_of : may_park x.entry.call ≡ true → may_park one.call ≡ true
   retries : is_retry x.entry.call ≡ true → is_some a.ticket ≡ true
 
-bring_again : (b c : Brought) (call : Call) → bringing b (bringing c call) ≡ bringing b call
+pub bring_again : (b c : Brought) (call : Call) → bringing b (bringing c call) ≡ bringing b call
 bring_again b c (calls.Read piece last old) = refl
 bring_again b c (calls.Write off bytes last old) = refl
 bring_again b c (calls.Retry ticket old) = refl
@@ -236,7 +231,7 @@ bring_again b c (calls.Borrow page old) = refl
 bring_again b c (calls.Vacate old) = refl
 bring_again b c _ = refl
 
-same_wanted : (made : List Entered) (call other : Call) → frames_before call ≡ frames_before other → wanted made call ≡ wanted made other
+pub same_wanted : (made : List Entered) (call other : Call) → frames_before call ≡ frames_before other → wanted made call ≡ wanted made other
 same_wanted made call other same = by_asked (asked (behind made)) call other same
   where
     by_asked : (m : Option ℕ) (call other : Call) → frames_before call ≡ frames_before other → or_supplied m call ≡ or_supplied m other
@@ -408,11 +403,11 @@ going_replied : (j : Judge) (start : List Entered) (a : Acting) (object : ℕ) (
 going_replied j start a object call now made t entry g of_call waits parking =
     let x = entered object entry in
     let k = known j start a now made object call entry g.settled g.ticket g.told g.parking g.says of_call in
-    let count = settled_more (is_evict entry.call) (settles entry.reply) (settled_in now) a.settled k.evict g.settled in
+    let count = settled_more (settles entry.reply) (settled_in now) a.settled g.settled in
     record {
       settled = count;
-      ticket = ap (λ held. ticket_after entry.reply held) g.ticket ∙ sym (ticket_more x now k.evict);
-      next = (g.next, λ unless. k.next);
+      ticket = ap (λ held. ticket_after entry.reply held) g.ticket;
+      next = (g.next, k.next);
       told = g.told;
       calm = g.calm;
       parking = parking_more (settles entry.reply) a entry.reply k.one refl k.way g.parking (λ is. k.parks_of (parking is));
@@ -424,12 +419,14 @@ going_replied j start a object call now made t entry g of_call waits parking =
 
 going_act : (j : Judge) (start : List Entered) (a : Acting) (who object : ℕ) (call : Call) (now made t : List Entered) (answer : Heard) (new : List Entered)
     → Going j start a (wishes.Act object call) now made t → MakesOne who object call answer new → AllFair new
-    → Going j start (next_acting a answer) (next_wish a answer) (new ++ now) (new ++ made) (new ++ t)
+    → Going j start (next_acting a answer) (next_wish a answer) (without_evicts new ++ now) (new ++ made) (new ++ t)
 going_act j start a who object call now made t answer new g does fair =
     let one : AllFair (entered object does.entry ∷ []) = subst AllFair does.is fair in
-    subst (λ n. Going j start (next_acting a answer) (next_wish a answer) (n ++ now) (n ++ made) (n ++ t)) (sym does.is)
+    let k = known j start a now made object call does.entry g.settled g.ticket g.told g.parking g.says does.of_call in
+    subst (λ n. Going j start (next_acting a answer) (next_wish a answer) (without_evicts n ++ now) (n ++ made) (n ++ t)) (sym does.is)
+    (subst (λ ns. Going j start (next_acting a answer) (next_wish a answer) (ns ++ now) (entered object does.entry ∷ made) (entered object does.entry ∷ t)) (sym (one_stays (entered object does.entry) k.evict))
     (subst (λ h. Going j start (next_acting a h) (next_wish a h) (entered object does.entry ∷ now) (entered object does.entry ∷ made) (entered object does.entry ∷ t)) (sym does.told)
-    (going_replied j start a object call now made t does.entry g does.of_call does.waits one.0.parking))
+    (going_replied j start a object call now made t does.entry g does.of_call does.waits one.0.parking)))
 
 -- a resize is made
 refused_free : (a : Acting) (now : List Entered) (object pages : ℕ) → slice_get (aims a) a.settled ≡ Some (record { object = object; call = calls.Resize pages })
@@ -451,11 +448,11 @@ going_resized j start a object pages now made t entry g of_call settled =
     let there : under_way a ≡ Some (aim_on object (calls.Resize pages)) =
     g.says.way ∙ (ap (λ o. Some (aim_on o g.says.one.call)) (sym g.says.on) ∙ ap (λ c. Some (aim_on object c)) resizes) in
     let count : a.settled + 1 ≡ settled_in (x ∷ now) =
-    ap (λ s. cond s (a.settled + 1) a.settled) (sym settled) ∙ settled_more (is_evict entry.call) (settles entry.reply) (settled_in now) a.settled k.evict g.settled in
+    ap (λ s. cond s (a.settled + 1) a.settled) (sym settled) ∙ settled_more (settles entry.reply) (settled_in now) a.settled g.settled in
     record {
       settled = count;
-      ticket = sym (ticket_more x now k.evict ∙ unheld entry.reply (ticket_in now) settled);
-      next = (g.next, λ unless. k.next);
+      ticket = sym (unheld entry.reply (ticket_in now) settled);
+      next = (g.next, k.next);
       told = g.told;
       calm = g.calm;
       parking = λ one way some. absurd cc;
@@ -468,11 +465,12 @@ going_resized j start a object pages now made t entry g of_call settled =
 
 going_resize : (j : Judge) (start : List Entered) (a : Acting) (who object pages : ℕ) (now made t : List Entered) (answer : Heard) (new : List Entered)
     → Going j start a (wishes.Resize object pages) now made t → ResizesOne who object pages answer new
-    → Going j start (next_acting a answer) (next_wish a answer) (new ++ now) (new ++ made) (new ++ t)
+    → Going j start (next_acting a answer) (next_wish a answer) (without_evicts new ++ now) (new ++ made) (new ++ t)
 going_resize j start a who object pages now made t answer new g does =
-    subst (λ n. Going j start (next_acting a answer) (next_wish a answer) (n ++ now) (n ++ made) (n ++ t)) (sym does.is)
+    subst (λ n. Going j start (next_acting a answer) (next_wish a answer) (without_evicts n ++ now) (n ++ made) (n ++ t)) (sym does.is)
+    (subst (λ ns. Going j start (next_acting a answer) (next_wish a answer) (ns ++ now) (entered object does.entry ∷ made) (entered object does.entry ∷ t)) (sym (one_stays (entered object does.entry) (ap is_evict does.of_call)))
     (subst (λ h. Going j start (next_acting a h) (next_wish a h) (entered object does.entry ∷ now) (entered object does.entry ∷ made) (entered object does.entry ∷ t)) (sym does.told)
-    (going_resized j start a object pages now made t does.entry g does.of_call does.settled))
+    (going_resized j start a object pages now made t does.entry g does.of_call does.settled)))
 
 -- frames are gathered or lent
 acts_no_park : (object : ℕ) (call : Call) → is_park (act_on object call) ≡ false
@@ -500,27 +498,23 @@ comes_gathered j start made new who count b call own none lends wants gathers =
     (subst (λ xs. j.gathers count b xs (behind (new ++ made) ++ start)) (sym (front_is who new made own none))
     (subst (λ xs. j.gathers count b new (xs ++ start)) (sym (behind_is who new made own none)) gathers)))
 
-free_more : (a : Acting) (who : ℕ) (new now : List Entered) → OwnEvicts who new → Free a now → Free a (new ++ now)
-free_more a who new now own free access = evicts_refuse_none who new now own ∙ free access
-
 going_gathered : (j : Judge) (start : List Entered) (a : Acting) (who count : ℕ) (now made t : List Entered) (b : Brought) (new : List Entered)
     → Going j start a (wishes.Gather count) now made t → OwnEvicts who new → j.gathers count b new (made ++ start)
-    → Going j start (next_acting a (heard.Brought b)) (next_wish a (heard.Brought b)) (new ++ now) (new ++ made) (new ++ t)
+    → Going j start (next_acting a (heard.Brought b)) (next_wish a (heard.Brought b)) now (new ++ made) (new ++ t)
 going_gathered j start a who count now made t b new g own gathers =
     let after = next_acting a (heard.Brought b) in
     record {
-      settled = g.settled ∙ sym (evicts_settle_none who new now own);
-      ticket = g.ticket ∙ sym (evicts_hold_none who new now own);
-      next = evicts_next who (aims a) (is_access a.doing) new now own g.next;
+      settled = g.settled;
+      ticket = g.ticket;
+      next = g.next;
       told = g.told;
       calm = g.calm;
       parking = g.parking;
       brings = evicts_bring who j start new made own g.brings;
       stops = evicts_stop who new made own (g.stopped refl) g.stops;
       stopped = λ unless. evicts_park_none who new made own (g.stopped refl);
-      says = says_makes j start after (new ++ now) (new ++ made) (new ++ t) g.says.one b g.says.way
-          (comes_gathered j start made new who count b g.says.one.call own g.says.none g.says.lends g.says.count_is gathers)
-          (free_more a who new now own g.says.free);
+      says = says_makes j start after now (new ++ made) (new ++ t) g.says.one b g.says.way
+          (comes_gathered j start made new who count b g.says.one.call own g.says.none g.says.lends g.says.count_is gathers) g.says.free;
     }
 
 comes_lent : (j : Judge) (start made : List Entered) (count : ℕ) (b : Brought) (call : Call) → front made ≡ [] → borrows call ≡ true
@@ -575,9 +569,9 @@ going_lasts j start a said now made t g unless lasts =
 
 going_done : (j : Judge) (start : List Entered) (a : Acting) (said : Wish) (now made t : List Entered) (answer : Heard) (new : List Entered)
     → Going j start a said now made t → is_park said ≡ false → Lasts a said now made t → DoneWithout answer new
-    → Going j start (next_acting a answer) (next_wish a answer) (new ++ now) (new ++ made) (new ++ t)
+    → Going j start (next_acting a answer) (next_wish a answer) (without_evicts new ++ now) (new ++ made) (new ++ t)
 going_done j start a said now made t answer new g unless lasts does =
-    subst (λ n. Going j start (next_acting a answer) (next_wish a answer) (n ++ now) (n ++ made) (n ++ t)) (sym does.none)
+    subst (λ n. Going j start (next_acting a answer) (next_wish a answer) (without_evicts n ++ now) (n ++ made) (n ++ t)) (sym does.none)
     (subst (λ h. Going j start (next_acting a h) (next_wish a h) now made t) (sym does.told) (going_lasts j start a said now made t g unless lasts))
 
 -- a parked actor goes on, at the beginning of a block
@@ -608,14 +602,15 @@ going_woken j start a object now t g =
 -- any other answer
 pub going_hears : (j : Judge) (start : List Entered) (a : Acting) (said : Wish) (who : ℕ) (now made t : List Entered) (answer : Heard) (new : List Entered)
     → Going j start a said now made t → is_park said ≡ false → Carries who said answer new → JudgedWish j said answer new (made ++ start) → AllFair new
-    → Going j start (next_acting a answer) (next_wish a answer) (new ++ now) (new ++ made) (new ++ t)
+    → Going j start (next_acting a answer) (next_wish a answer) (without_evicts new ++ now) (new ++ made) (new ++ t)
 going_hears j start a (wishes.Act object call) who now made t answer new g unless does judged fair = going_act j start a who object call now made t answer new g does fair
 going_hears j start a (wishes.Resize object pages) who now made t answer new g unless does judged fair = going_resize j start a who object pages now made t answer new g does
 going_hears j start a (wishes.Gather count) who now made t answer new g unless does judged fair =
-    subst (λ h. Going j start (next_acting a h) (next_wish a h) (new ++ now) (new ++ made) (new ++ t)) (sym judged.1)
-    (going_gathered j start a who count now made t judged.0 new g does.own judged.2)
+    subst (λ ns. Going j start (next_acting a answer) (next_wish a answer) (ns ++ now) (new ++ made) (new ++ t)) (sym (evicts_gone who new does.own))
+    (subst (λ h. Going j start (next_acting a h) (next_wish a h) now (new ++ made) (new ++ t)) (sym judged.1)
+    (going_gathered j start a who count now made t judged.0 new g does.own judged.2))
 going_hears j start a wishes.Loan who now made t answer new g unless does judged fair =
-    subst (λ n. Going j start (next_acting a answer) (next_wish a answer) (n ++ now) (n ++ made) (n ++ t)) (sym judged.2)
+    subst (λ n. Going j start (next_acting a answer) (next_wish a answer) (without_evicts n ++ now) (n ++ made) (n ++ t)) (sym judged.2)
     (subst (λ h. Going j start (next_acting a h) (next_wish a h) now made t) (sym judged.1) (going_lent j start a now made t judged.0 g judged.3))
 going_hears j start a (wishes.Park object) who now made t answer new g unless does judged fair = absurd cc
 going_hears j start a wishes.Age who now made t answer new g unless does judged fair = going_done j start a wishes.Age now made t answer new g unless g.says does

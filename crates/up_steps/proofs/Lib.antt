@@ -1,10 +1,15 @@
+mod Aligning
 mod Answering
 mod Blocks
 mod Calling
+mod Chaining
+mod Deciding
 mod DevSaying
 mod Evicting
 mod Going
 mod Lining
 mod Owning
 mod Plainly
+mod Relieving
+mod Settling
 mod Small

@@ -22,10 +22,11 @@ use Rattle.up_worker.specs.declared.wish.Heard.{Heard}
 use Rattle.up_worker.specs.declared.wish.Heard.TheVariants as heard
 use Rattle.up_worker.specs.declared.wish.Wish.{Wish}
 use Rattle.up_worker.specs.declared.wish.Wish.TheVariants as wishes
-use Rattle.up_steps.specs.Asked.{AreNext, IsDone}
+use Rattle.up_steps.specs.Asked.{without_evicts, AreNext, IsDone}
 use Rattle.up_steps.specs.Steps.{Setting, Moment, judge_at, AllBy, AllAt}
 use Rattle.up_steps.specs.Told.{own, last_parks, kind_at, objects_at, Told}
 use Rattle.up_steps.specs.World.{actor_at, made_by, moment_by, moment_at, IsCarried, Follows, is_park, rests}
+use Rattle.up_steps.proofs.Calling.{without_append}
 use Rattle.up_steps.proofs.Going.{Quiet, Says, Going, going_begins, going_woken, going_hears}
 use Rattle.up_steps.proofs.Owning.{own_mine, all_by, all_at, carries_by, doing_next, kind_stays, objects_stay}
 
@@ -67,7 +68,7 @@ pub record Plainly (s : Setting) (m : Moment) (who : ℕ) (start : List Entered)
   pub by : AllBy who made
   pub epoch : AllAt m.ages made
   pub lines_are : begun events ≡ (out_after s who events).acting.doing ∷ earlier
-  pub tale : own who g ≡ now ++ old
+  pub tale : without_evicts (own who g) ≡ now ++ old
   pub told : Told (kind_at s.actors who) (objects_at s.actors who) earlier old
   pub last : last_wish (out_after s who events).acting.doing ≡ wishes.LineEnd
   pub going : Going (judge_at s m) start (out_after s who events).acting (out_after s who events).said now made (own who g)
@@ -92,22 +93,23 @@ plainly_hears s m who start events g answer new p unless c =
     (subst (λ xs. JudgedWish (judge_at s m) said answer new xs) p.is judged) c.fair in
     record {
       made = new ++ p.made;
-      now = new ++ p.now;
+      now = without_evicts new ++ p.now;
       old = p.old;
       earlier = p.earlier;
       is = ap (λ xs. new ++ xs) p.is ∙ sym (append_assoc new p.made start);
       by = all_by who new p.made mine p.by;
       epoch = all_at m.ages new p.made c.epoch p.epoch;
       lines_are = p.lines_are ∙ ap (λ d. d ∷ p.earlier) (sym (doing_next a answer));
-      tale = own_mine who new g mine ∙ (ap (λ xs. new ++ xs) p.tale ∙ sym (append_assoc new p.now p.old));
+      tale = ap without_evicts (own_mine who new g mine) ∙ (without_append new (own who g)
+          ∙ (ap (λ xs. without_evicts new ++ xs) p.tale ∙ sym (append_assoc (without_evicts new) p.now p.old)));
       told = p.told;
       last = ap last_wish (doing_next a answer) ∙ p.last;
-      going = subst (λ t. Going (judge_at s m) start (next_acting a answer) (next_wish a answer) (new ++ p.now) (new ++ p.made) t) (sym (own_mine who new g mine)) step;
+      going = subst (λ t. Going (judge_at s m) start (next_acting a answer) (next_wish a answer) (without_evicts new ++ p.now) (new ++ p.made) t) (sym (own_mine who new g mine)) step;
     }
 
 -- a line is begun
 pub told_more : (s : Setting) (m : Moment) (who : ℕ) (start : List Entered) (events : List Event) (g : List Entered) (p : Plainly s m who start events g)
-    → (out_after s who events).said ≡ wishes.LineEnd → Told (kind_at s.actors who) (objects_at s.actors who) (begun events) (own who g)
+    → (out_after s who events).said ≡ wishes.LineEnd → Told (kind_at s.actors who) (objects_at s.actors who) (begun events) (without_evicts (own who g))
 told_more s m who start events g p ended =
     let a = (out_after s who events).acting in
     let kind : a.kind ≡ kind_at s.actors who = kind_stays (actor_at s who) events in
@@ -117,7 +119,7 @@ told_more s m who start events g p ended =
     (subst (λ os. AreNext (calls_of a.kind os a.doing) (is_access a.doing) p.now) objects p.going.next) in
     let done = subst (λ k. IsDone (calls_of k (objects_at s.actors who) a.doing) (is_access a.doing) p.now) kind
     (subst (λ os. IsDone (calls_of a.kind os a.doing) (is_access a.doing) p.now) objects ends.done) in
-    subst (λ ds. Told (kind_at s.actors who) (objects_at s.actors who) ds (own who g)) (sym p.lines_are)
+    subst (λ ds. Told (kind_at s.actors who) (objects_at s.actors who) ds (without_evicts (own who g))) (sym p.lines_are)
     (p.now, p.old, p.tale, next, done, p.told)
 
 pub plainly_begins : (s : Setting) (m : Moment) (who : ℕ) (start : List Entered) (events : List Event) (g : List Entered) (doing : Doing)
@@ -128,7 +130,7 @@ plainly_begins s m who start events g doing p ended plain =
     record {
       made = p.made;
       now = [];
-      old = own who g;
+      old = without_evicts (own who g);
       earlier = begun events;
       is = p.is;
       by = p.by;

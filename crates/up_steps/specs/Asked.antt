@@ -1,4 +1,5 @@
--- What the entries of one line of an actor are, by looking back at those of the same line; and what each call brings. Entries stand newest first.
+-- What the entries of one line of an actor are, but for evicts, by looking back at those of the same line; and what each call brings. Entries stand newest
+-- first.
 use Rattle.std.specs.Prelude.{◌≡◌, ℕ, ◌+◌, ◌==◌, ◌||◌, ◌⊎◌, Bool, true, false, cond, Option, Some, None, List, [], ◌∷◌, ◌++◌, slice_get}
 use Rattle.up_model.specs.declared.entry.Brought.{Brought}
 use Rattle.up_model.specs.declared.entry.Brought.TheVariants.{Nothing}
@@ -8,8 +9,8 @@ use Rattle.up_model.specs.declared.entry.Reply.{Reply}
 use Rattle.up_model.specs.declared.entry.Reply.TheVariants as replies
 use Rattle.up_worker.specs.Calls.{bringing, frames_before, borrows}
 use Rattle.up_worker.specs.Frames.{Judge, front, behind, asked}
-use Rattle.up_worker.specs.Lives.{Entered, is_evict, is_aid}
-use Rattle.up_worker.specs.Wishes.{is_refused, ticket_after, attempt}
+use Rattle.up_worker.specs.Lives.{Entered, is_evict}
+use Rattle.up_worker.specs.Wishes.{settles, is_refused, ticket_after, attempt}
 use Rattle.up_worker.specs.declared.course.Aim.{Aim}
 
 -- the actor of an entry with this reply is parked
@@ -25,15 +26,20 @@ may_park (calls.Write off bytes last brought) = true
 may_park (calls.Retry ticket brought) = true
 may_park _ = false
 
+-- the entries that are no evicts
+abbrev pub without_evicts : List Entered → List Entered
+without_evicts [] = []
+without_evicts (x ∷ before) = cond (is_evict x.entry.call) (without_evicts before) (x ∷ without_evicts before)
+
 -- how many calls of a line these entries of it have settled
 abbrev pub settled_in : List Entered → ℕ
 settled_in [] = 0
-settled_in (x ∷ before) = cond (is_aid x.entry) (settled_in before) (settled_in before + 1)
+settled_in (x ∷ before) = cond (settles x.entry.reply) (settled_in before + 1) (settled_in before)
 
 -- the ticket under which its next call waits
 abbrev pub ticket_in : List Entered → Option ℕ
 ticket_in [] = None
-ticket_in (x ∷ before) = cond (is_evict x.entry.call) (ticket_in before) (ticket_after x.entry.reply (ticket_in before))
+ticket_in (x ∷ before) = ticket_after x.entry.reply (ticket_in before)
 
 -- a call was refused
 abbrev pub refused_in : List Entered → Bool
@@ -50,10 +56,10 @@ pub record IsNext (line : List Aim) (access : Bool) (before : List Entered) (x :
   pub made : x.entry.call ≡ bringing brought (attempt (ticket_in before) aim.call)
   pub free : access ≡ true → refused_in before ≡ false
 
--- each entry of a line, but for evicts, is its next call
+-- each entry is the next call of the line
 abbrev pub AreNext : List Aim → Bool → List Entered → Type 0
 AreNext line access [] = Unit {0}
-AreNext line access (x ∷ before) = AreNext line access before × (is_evict x.entry.call ≡ false → IsNext line access before x)
+AreNext line access (x ∷ before) = AreNext line access before × IsNext line access before x
 
 -- all calls of a line are settled, or it is a read or a write that was refused
 abbrev pub IsDone : List Aim → Bool → List Entered → Type 0

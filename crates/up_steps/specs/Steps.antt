@@ -1,6 +1,6 @@
 -- What all entries of a script's objects are where its lines are done in order on one thread. They stand in one list, each with its object, newest first, and
 -- are cut into blocks, one for each line; lines stand newest first too.
-use Rattle.std.specs.Prelude.{◌≡◌, ℕ, ◌+◌, ◌-◌, not, Bool, true, false, List, [], ◌∷◌, ◌++◌, map, sum, slice_set, slice_index}
+use Rattle.std.specs.Prelude.{◌≡◌, ℕ, ◌+◌, ◌-◌, not, Bool, true, false, List, [], ◌∷◌, ◌++◌, map, sum, slice_set, slice_index, min, ◌^◌}
 use Rattle.up_model.specs.declared.entry.Call.{Call}
 use Rattle.up_model.specs.declared.entry.Call.TheVariants as calls
 use Rattle.up_evictor.specs.Levels.{level_of, age_limits}
@@ -16,7 +16,7 @@ use Rattle.up_worker.specs.Calls.{calls_in}
 use Rattle.up_worker.specs.Frames.{Judge, front}
 use Rattle.up_worker.specs.Lives.{Entered, OwnEvicts}
 use Rattle.up_worker.specs.Thread.{exact, culls_of}
-use Rattle.up_steps.specs.Asked.{AreNext, IsDone, AllBring}
+use Rattle.up_steps.specs.Asked.{without_evicts, AreNext, IsDone, AllBring}
 use Rattle.up_steps.specs.Told.{own, last_parks, parked, is_go, given_to, kind_at, objects_at, Told, ToldInPart}
 
 -- What is given: the actors, how many objects there are, the marks of levels, how many ordinary frames are at home after these entries, and how many
@@ -39,7 +39,7 @@ first_moment s = record { ages = 0; kept = map (λ actor. 0) s.actors }
 -- After a line of this actor, where these are all entries: an age makes the clock one older, after a recall all loaned frames that are at home are kept,
 -- and a lend gives back those that this actor keeps.
 abbrev pub moment_after : Setting → Moment → ℕ → Action → List Entered → Moment
-moment_after s m who actions.Age now = record { ages = m.ages + 1; kept = m.kept }
+moment_after s m who actions.Age now = record { ages = min (m.ages + 1) (2 ^ 64 - 1); kept = m.kept }
 moment_after s m who actions.Recall now = record { ages = m.ages; kept = slice_set m.kept who (slice_index m.kept who + s.loans (sum m.kept) now) }
 moment_after s m who actions.Lend now = record { ages = m.ages; kept = slice_set m.kept who 0 }
 moment_after s m who _ now = m
@@ -78,8 +78,8 @@ pub record EvictsOne (object limit most : ℕ) (made : List Entered) : Type 0 wh
 -- an evictor's line by calls, all of which are made
 pub record AllMade (s : Setting) (m : Moment) (objects : List ℕ) (action : Action) (start made : List Entered) : Type 0 where
   pub framed : IsFramed s m start made
-  pub next : AreNext (calls_in objects action) false made
-  pub done : IsDone (calls_in objects action) false made
+  pub next : AreNext (calls_in objects action) false (without_evicts made)
+  pub done : IsDone (calls_in objects action) false (without_evicts made)
 
 abbrev pub OneCall : Setting → Moment → List ℕ → ℕ → Call → List Entered → List Entered → Type 0
 OneCall s m objects object (calls.Evict limit most) start made = EvictsOne object limit most made
@@ -96,8 +96,8 @@ Evictors s m objects who action start made = AllMade s m objects action start ma
 
 -- an actor's lines so far are all done, or it is parked in one of them
 abbrev pub IsFar : Setting → List Line → ℕ → Bool → List Entered → Type 0
-IsFar s lines who false now = Told (kind_at s.actors who) (objects_at s.actors who) (given_to who lines) (own who now)
-IsFar s lines who true now = ToldInPart (kind_at s.actors who) (objects_at s.actors who) (given_to who lines) (own who now)
+IsFar s lines who false now = Told (kind_at s.actors who) (objects_at s.actors who) (given_to who lines) (without_evicts (own who now))
+IsFar s lines who true now = ToldInPart (kind_at s.actors who) (objects_at s.actors who) (given_to who lines) (without_evicts (own who now))
 
 -- the block of another actor's line: it goes on with its lines as far as it can
 pub record GoesFar (s : Setting) (m : Moment) (lines : List Line) (who : ℕ) (start made : List Entered) : Type 0 where

@@ -1,4 +1,4 @@
--- The entries of one actor, told by its lines. Entries and lines stand newest first.
+-- The entries of one actor, but for evicts, told by its lines. Entries and lines stand newest first.
 use Rattle.std.specs.Prelude.{◌≡◌, ℕ, ◌==◌, ◌&&◌, not, Bool, true, false, cond, Option, Some, None, List, [], ◌∷◌, ◌++◌, slice_get}
 use Rattle.up_script.specs.Actions.{kind_of}
 use Rattle.up_script.specs.declared.script.Action.{Action}

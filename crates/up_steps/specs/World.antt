@@ -1,5 +1,5 @@
 -- What happens where one thread does all that actors wish, line by line. Happenings, entries and lines stand newest first.
-use Rattle.std.specs.Prelude.{◌≡◌, ℕ, ◌+◌, ◌==◌, Bool, true, false, cond, not, List, [], ◌∷◌, ◌++◌, sum, slice_set, slice_index}
+use Rattle.std.specs.Prelude.{◌≡◌, ℕ, ◌+◌, ◌==◌, Bool, true, false, cond, not, List, [], ◌∷◌, ◌++◌, sum, slice_set, slice_index, min, ◌^◌, ◌-◌}
 use Rattle.up_model.specs.declared.entry.Entry.{Entry}
 use Rattle.up_script.specs.Fit.{may_do}
 use Rattle.up_script.specs.declared.script.ActorLine.{ActorLine}
@@ -50,7 +50,7 @@ said_by s who world = (out_of s who world).said
 
 -- the moment after a wish of this actor was carried out, where these are all entries before it
 abbrev pub moment_by : Setting → Moment → ℕ → Wish → List Entered → Moment
-moment_by s m who wishes.Age before = record { ages = m.ages + 1; kept = m.kept }
+moment_by s m who wishes.Age before = record { ages = min (m.ages + 1) (2 ^ 64 - 1); kept = m.kept }
 moment_by s m who wishes.Keep before = record { ages = m.ages; kept = slice_set m.kept who (slice_index m.kept who + s.loans (sum m.kept) before) }
 moment_by s m who wishes.Give before = record { ages = m.ages; kept = slice_set m.kept who 0 }
 moment_by s m who _ before = m

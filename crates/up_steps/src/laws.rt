@@ -1,11 +1,16 @@
 //! What follows where one thread does what actors wish, line by line.
 
-ghost use Rattle.up_steps.specs.Laws.{StepsFollow};
+ghost use Rattle.up_steps.specs.Laws.{StepsFollow, StepsDecide};
 ghost use Rattle.up_steps.specs.Row.{IsOneThreads, RefusesMore, RefusesOther, RefusesNothing};
 
 /// Where each event follows on what its actor said, is done exactly, and the lines are gone through in order, all entries are the steps of these lines.
 pub fn doing_wishes_makes_the_steps()
     ensures { StepsFollow }
+{}
+
+/// Two lists of entries that are the steps of the same lines, and whose replies are given by the same rule, are one list.
+pub fn the_steps_decide_the_entries()
+    ensures { StepsDecide }
 {}
 
 /// A read that blocks, a packet, a supply and a go, as they happen, are one thread's.

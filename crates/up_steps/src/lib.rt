@@ -5,4 +5,5 @@ mod laws;
 
 pub use laws::{
     a_small_script_is_done_so, doing_wishes_makes_the_steps, other_entries_are_no_steps,
+    the_steps_decide_the_entries,
 };

@@ -5,5 +5,5 @@ use Rattle.up_object_trials.proofs.playing.take_list.Given as goal
 abbrev pub invariant-loop-place : goal.invariant-loop-place
 invariant-loop-place l = record {
   desk : l.desk ≡ l.fn.desk;
-  keeps : AllKeep l.fn.object l.list;
+  keeps : AllKeep l.object l.list;
 }

@@ -6,5 +6,5 @@ use Rattle.up_object_trials.proofs.desk.Desk.some_frames.Given as goal
 abbrev pub invariant-loop-place : goal.invariant-loop-place
 invariant-loop-place l = record {
   same : l.self ≡ l.fn.self;
-  own : AllAre (bank_of l.fn.self l.fn.kind) l.frames.items;
+  own : AllAre (bank_of l.fn.self l.kind) l.frames.items;
 }

@@ -1,6 +1,0 @@
-use Rattle.std.proofs.Common.{◌≡◌}
-use Rattle.pagerd.specs.Journals.{named_from}
-use Rattle.pagerd.proofs.steps.name_all.Given as goal
-
-abbrev pub invariant-loop-entries : goal.invariant-loop-entries
-invariant-loop-entries l = l.journals ≡ named_from l.objects l.yielded

@@ -1,0 +1,172 @@
+-- A script's objects and actors before its first line, and what was played at its end.
+use Rattle.std.proofs.Common.{◌≡◌, ℕ, ◌+◌, ◌<◌, ◌≤◌, ◌&&◌, Bool, true, false, Option, Some, None, List, [], ◌∷◌, zero, suc, length, map, take, replicate, reverse, refl, sym, ap, ◌∙◌, subst, inl, inr, slice_get, slice_index, nat_lt, arith}
+use Rattle.std.specs.List.{list_all}
+use Rattle.std.proofs.lemmas.Bool.{ltb-true}
+use Rattle.std.proofs.lemmas.List.{length-replicate, length-map}
+use Rattle.up_model.proofs.Bools.{and_left, and_right}
+use Rattle.up_model.specs.Legal.{Life}
+use Rattle.up_model.specs.declared.entry.Birth.{Birth}
+use Rattle.up_model.specs.declared.entry.Entry.{Entry}
+use Rattle.up_hands.specs.Handed.{lives_from, lives_of, new_life, ends_of, AllLegal}
+use Rattle.up_script.specs.Actions.{kind_of}
+use Rattle.up_script.specs.Sound.{is_sound, are_sound_objects, is_sound_line, are_sound_lines}
+use Rattle.up_script.specs.declared.script.ActorLine.{ActorLine}
+use Rattle.up_script.specs.declared.script.Kind.{Kind}
+use Rattle.up_script.specs.declared.script.Line.{Line}
+use Rattle.up_script.specs.declared.script.Script.{Script}
+use Rattle.up_steps.specs.Laws.{StepsFollow}
+use Rattle.up_steps.specs.Steps.{Setting, Steps}
+use Rattle.up_steps.specs.Told.{given_to, kind_at, objects_at, objects_in}
+use Rattle.up_steps.specs.World.{moment_in, entries, Ran}
+use Rattle.up_worker.specs.Acting.{Acting, unborn}
+use Rattle.up_stage.specs.Staged.{Staged, unborn_from}
+use Rattle.up_stage.specs.Ready.{ActorKeeps, Rests, AtRest}
+use Rattle.up_stage.specs.Worlds.{Stands, StandsAtRest}
+use Rattle.up_stage.specs.Lines.{Paced, Gone, GoesThrough, is_own_line}
+use Rattle.up_stage.specs.Played.{births_of, setting_of, AreJournalsOf, is_played_line, is_bound_to, IsPlayable, is_able_line, are_able, IsNew}
+use Rattle.up_stage.proofs.Lives.{some_same}
+
+unborn_count : (n : ℕ) (actors : List ActorLine) → length (unborn_from n actors) ≡ length actors
+unborn_count n [] = refl
+unborn_count n (a ∷ more) = let rest = unborn_count (n + 1) more in omega arith
+
+-- an actor before its first line, by its declaration
+record Unborn (n : ℕ) (actors : List ActorLine) (k : ℕ) (a : Acting) : Type 0 where
+  line : ActorLine
+  is : slice_get actors k ≡ Some line
+  unborn : unborn (n + k) line.kind line.objects ≡ a
+
+unborn_at : (n : ℕ) (actors : List ActorLine) (k : ℕ) (a : Acting) → slice_get (unborn_from n actors) k ≡ Some a → Unborn n actors k a
+unborn_at n [] k a is = absurd cc
+unborn_at n (line ∷ more) zero a is =
+    let e : n + 0 ≡ n = omega arith in
+    record { line = line; is = refl; unborn = ap (λ k. unborn k line.kind line.objects) e ∙ some_same (unborn n line.kind line.objects) a is }
+unborn_at n (line ∷ more) (suc k) a is =
+    let rest = unborn_at (n + 1) more k a is in
+    let e : n + suc k ≡ n + 1 + k = omega arith in
+    record { line = rest.line; is = rest.is; unborn = ap (λ k. unborn k rest.line.kind rest.line.objects) e ∙ rest.unborn }
+
+unborn_is : (actors : List ActorLine) (k : ℕ) (a : Acting) → slice_get (unborn_from 0 actors) k ≡ Some a → (line : ActorLine) × (slice_get actors k ≡ Some line) × (unborn k line.kind line.objects ≡ a)
+unborn_is actors k a is =
+    let one = unborn_at 0 actors k a is in
+    let e : k ≡ 0 + k = omega arith in
+    (one.line, one.is, ap (λ n. unborn n one.line.kind one.line.objects) e ∙ one.unborn)
+
+new_legal : (births : List Birth) → AllLegal (map new_life births)
+new_legal [] = tt
+new_legal (b ∷ bs) = (tt, new_legal bs)
+
+new_lives : (n : ℕ) (births : List Birth) → map new_life births ≡ lives_from n births []
+new_lives n [] = refl
+new_lives n (b ∷ bs) = ap (λ ls. new_life b ∷ ls) (new_lives (n + 1) bs)
+
+all_at : {X : Type 0} (test : X → Bool) (xs : List X) (k : ℕ) (x : X) → list_all test xs ≡ true → slice_get xs k ≡ Some x → test x ≡ true
+all_at test [] k x all is = absurd cc
+all_at test (y ∷ ys) zero x all is = subst (λ z. test z ≡ true) (some_same y x is) (and_left (test y) (list_all test ys) all)
+all_at test (y ∷ ys) (suc k) x all is = all_at test ys k x (and_right (test y) (list_all test ys) all) is
+
+zeros : (n who : ℕ) → slice_index (replicate n 0) who ≡ 0
+zeros zero who = refl
+zeros (suc n) zero = refl
+zeros (suc n) (suc who) = zeros n who
+
+no_kept : (actors : List ActorLine) → replicate (length actors) 0 ≡ map (λ actor. 0) actors
+no_kept [] = refl
+no_kept (a ∷ more) = ap (λ ns. 0 ∷ ns) (no_kept more)
+
+born_keeps : (objects : ℕ) (actors : List ActorLine) → list_all (is_bound_to objects) actors ≡ true → (lives : List Life) → length lives ≡ objects → (who : ℕ) (a : Acting) → slice_get (unborn_from 0 actors) who ≡ Some a
+    → ActorKeeps lives who a
+born_keeps objects actors bound lives count who a is =
+    let u = unborn_is actors who a is in
+    subst (λ (x : Acting). ActorKeeps lives who x) u.2 (record {
+      number = refl;
+      calls = λ place aim at. absurd cc;
+      objects = λ place object at.
+          let b = all_at (is_bound_to objects) actors who u.0 bound u.1 in
+          let below = ltb-true object objects (all_at (λ o. nat_lt o objects) u.0.objects place object b at) in
+          rw count below;
+      holds = λ t aim held at. absurd cc;
+    })
+
+pub new_rests : (script : Script) (stage : Staged) → IsPlayable script → IsNew script stage → AtRest stage
+new_rests script stage able is = subst AtRest (sym is) (record {
+  keeps = record {
+    legal = new_legal (births_of script.objects);
+    kept = length-replicate (length script.actors) 0 ∙ sym (unborn_count 0 script.actors);
+    done = length-replicate (length script.actors) 0 ∙ sym (unborn_count 0 script.actors);
+    each = born_keeps (length script.objects) script.actors able.actors _ (length-map (births_of script.objects) new_life ∙ length-map script.objects (λ object. object.birth));
+  };
+  hand = refl;
+  rest = λ who a at. let u = unborn_is script.actors who a at in subst Rests u.2 (inl (refl, refl));
+})
+
+born_stands : (actors : List ActorLine) (who : ℕ) (a : Acting) → slice_get (unborn_from 0 actors) who ≡ Some a → a ≡ unborn who (kind_at actors who) (objects_at actors who)
+born_stands actors who a is =
+    let u = unborn_is actors who a is in
+    sym u.2 ∙ ap (λ o. unborn who (kind_of o) (objects_in o)) (sym u.1)
+
+new_stands : (script : Script) (stage : Staged) → IsNew script stage → StandsAtRest (births_of script.objects) (setting_of script) [] stage
+new_stands script stage is = subst (λ (x : Staged). StandsAtRest (births_of script.objects) (setting_of script) [] x) (sym is) (record {
+  stands = record {
+    objects = sym (length-map script.objects (λ object. object.birth));
+    levels = refl;
+    home = refl;
+    loans = refl;
+    lives = new_lives 0 (births_of script.objects);
+    ages = refl;
+    kept = no_kept script.actors;
+    actors = born_stands script.actors;
+    thread = tt;
+  };
+  rest = λ who. refl;
+})
+
+new_paced : (script : Script) (stage : Staged) → IsNew script stage → Paced (setting_of script) script.lines 0 [] stage.done
+new_paced script stage is = subst (λ (x : Staged). Paced (setting_of script) script.lines 0 [] x.done) (sym is) (record {
+  pace = λ who within. ap (λ k. given_to who (reverse (take k script.lines))) (sym (zeros (length script.actors) who));
+  low = λ who within. rw (zeros (length script.actors) who) (omega arith);
+  even = λ who within free. refl;
+})
+
+both : (a b : Bool) → a ≡ true → b ≡ true → (a && b) ≡ true
+both true b p q = q
+both false b p q = absurd cc
+
+able_all : (objects actors : ℕ) (lines : List ActorLine) (xs : List Line) → are_sound_lines objects actors xs ≡ true → list_all (is_played_line lines) xs ≡ true → are_able objects actors xs ≡ true
+able_all objects actors lines [] sound played = refl
+able_all objects actors lines (x ∷ xs) sound played =
+    both _ _ (both _ _ (and_left (is_sound_line objects actors x) _ sound) (and_right _ _ (and_left (is_played_line lines x) _ played)))
+    (able_all objects actors lines xs (and_right (is_sound_line objects actors x) _ sound) (and_right (is_played_line lines x) _ played))
+
+pub able_lines : (script : Script) (stage : Staged) → IsPlayable script → IsNew script stage → are_able (length stage.hands.lives) (length stage.actors) script.lines ≡ true
+able_lines script stage able is =
+    let objects : length stage.hands.lives ≡ length script.objects =
+    ap (λ (s : Staged). length s.hands.lives) is ∙ length-map (births_of script.objects) new_life ∙ length-map script.objects (λ object. object.birth) in
+    let actors : length stage.actors ≡ length script.actors = ap (λ (s : Staged). length s.actors) is ∙ unborn_count 0 script.actors in
+    rw (objects, actors) (able_all (length script.objects) (length script.actors) script.actors script.lines
+    (and_right _ _ able.sound) able.lines)
+
+own_all : (script : Script) (xs : List Line) → list_all (is_played_line script.actors) xs ≡ true → list_all (is_own_line (setting_of script)) xs ≡ true
+own_all script [] played = refl
+own_all script (x ∷ xs) played = both _ _ (and_left _ _ (and_left (is_played_line script.actors x) _ played)) (own_all script xs (and_right (is_played_line script.actors x) _ played))
+
+take_all : {X : Type 0} (xs : List X) → take (length xs) xs ≡ xs
+take_all [] = refl
+take_all (x ∷ xs) = ap (λ ys. x ∷ ys) (take_all xs)
+
+-- what was played
+pub journals_are : (script : Script) (first last : Staged) (journals : List (List Entry)) → StepsFollow → IsPlayable script → IsNew script first → GoesThrough script.lines (length script.lines) first last
+    → AllLegal last.hands.lives → journals ≡ ends_of last.hands.lives → AreJournalsOf script journals
+journals_are script first last journals follow able is went legal are =
+    let s = setting_of script in
+    let births = births_of script.objects in
+    let gone = went.went births s (own_all script script.lines able.lines) (new_stands script first is) (new_paced script first is) in
+    let world = gone.world in
+    let lives = gone.stands.stands.lives in
+    record {
+      entered = entries world;
+      moment = moment_in s world;
+      steps = follow s (reverse script.lines) world gone.stands.stands.thread (subst (λ (xs : List Line). Ran s (reverse xs) world) (take_all script.lines) gone.ran);
+      legal = subst AllLegal lives legal;
+      are = are ∙ ap ends_of lives;
+    }

@@ -1,0 +1,14 @@
+pub mod Replying
+pub mod Lives
+pub mod Tickets
+pub mod Pendings
+pub mod Stepping
+pub mod Readying
+pub mod Standing
+pub mod Fitting
+pub mod Resting
+pub mod Lining
+pub mod Going
+pub mod Following
+pub mod Beginning
+pub mod Rounding

@@ -1,0 +1,213 @@
+-- What begins with an actor that rests, and ends where it rests again.
+use Rattle.std.proofs.Common.{◌≡◌, ℕ, ◌+◌, ◌<◌, ◌==◌, ◌++◌, ◌⊎◌, Bool, true, false, cond, is_some, Option, Some, None, List, [], ◌∷◌, length, refl, sym, ap, ◌∙◌, subst, inl, inr, slice_get, slice_set, arith}
+use Rattle.std.proofs.lemmas.List.{length-set, append_assoc}
+use Rattle.std.proofs.lemmas.Option.{slice_get_within}
+use Rattle.up_model.proofs.Bools.{nat_eq-same, nat_eq_true, and_left, and_right}
+use Rattle.up_model.specs.declared.entry.Birth.{Birth}
+use Rattle.up_model.specs.declared.entry.Brought.TheVariants.{Nothing}
+use Rattle.up_hands.specs.Handed.{Handed, empty_hand}
+use Rattle.up_hands.specs.Carried.{hand_for}
+use Rattle.up_script.specs.Sound.{is_sound_action}
+use Rattle.up_script.specs.declared.script.Action.{Action}
+use Rattle.up_script.specs.declared.script.Line.{Line}
+use Rattle.up_steps.specs.Steps.{Setting}
+use Rattle.up_steps.specs.World.{Happening, happens, events_of, out_of, said_by, is_park, is_parked, rests, GoesOn, AllAnswers, Began}
+use Rattle.up_worker.specs.Acting.{Acting, under_way, next_wish, next_acting, first_wish, started}
+use Rattle.up_worker.specs.Lives.{Event, Begins, Hears, Out}
+use Rattle.up_worker.specs.Wishes.{makes, wants_after}
+use Rattle.up_worker.specs.declared.course.Aim.{Aim}
+use Rattle.up_worker.specs.declared.course.Doing.{Doing}
+use Rattle.up_worker.specs.declared.course.Doing.TheVariants.{OneLine}
+use Rattle.up_worker.specs.declared.wish.Heard.TheVariants as heard
+use Rattle.up_worker.specs.declared.wish.Wanted.{Wanted}
+use Rattle.up_worker.specs.declared.wish.Wanted.TheVariants as wanted
+use Rattle.up_worker.specs.declared.wish.Wish.{Wish}
+use Rattle.up_worker.specs.declared.wish.Wish.TheVariants as wishes
+use Rattle.up_stage.specs.Calls.{IsRightFor}
+use Rattle.up_stage.specs.Staged.{Staged}
+use Rattle.up_stage.specs.Ready.{ActorKeeps, Keeps, Parks, Pending, Rests, AtRest, Ready, is_done_wanted, waits_for_go, is_waiting}
+use Rattle.up_stage.specs.Worlds.{Stands, StandsAtRest, Follows, FollowsOn, Acts, ActsOn, Resumes, ResumesOn}
+use Rattle.up_stage.proofs.Fitting.{fit_calls}
+use Rattle.up_stage.proofs.Lives.{some_same, slice_get-set}
+use Rattle.up_stage.proofs.Pendings.{pending_makes, pending_begins}
+use Rattle.up_stage.proofs.Standing.{wants_said, out_own, stands_begun, stands_woken}
+use Rattle.up_stage.proofs.Stepping.{hand_begins}
+
+own_rests : (a : Acting) (wish : Wish) → rests wish ≡ true → Pending a wish → a.wants ≡ wants_after wish → Rests a
+own_rests a (wishes.Park object) is p wants = inr (wants, p)
+own_rests a wishes.LineEnd is p wants = inl (wants, p)
+own_rests a _ is p wants = absurd cc
+
+empty_at_rest : (wish : Wish) → rests wish ≡ true → hand_for wish ≡ empty_hand
+empty_at_rest (wishes.Park object) is = refl
+empty_at_rest wishes.LineEnd is = refl
+empty_at_rest _ is = absurd cc
+
+-- where an actor's wish is to rest, all rest
+pub at_rest : (s : Staged) (who : ℕ) (wish : Wish) → Ready s who wish → rests wish ≡ true → AtRest s
+at_rest s who wish r is = record {
+  keeps = r.keeps;
+  hand = r.hand ∙ empty_at_rest wish is;
+  rest = λ v a at.
+      elim (who == v) as (λ b. (who == v) ≡ b → Rests a) [
+        | true ↦ λ q. let mine : r.acting ≡ a = some_same r.acting a (sym r.is ∙ ap (λ (n : ℕ). slice_get s.actors n) (nat_eq_true who v q) ∙ at) in
+            subst Rests mine (own_rests r.acting wish is r.pending r.wants)
+        | false ↦ λ q. r.others v a q at
+      ] refl;
+}
+
+-- an actor exchanged for another state of it
+keeps_set : (old mid : Staged) (who : ℕ) (new : Acting) → Keeps old → mid.hands ≡ old.hands → mid.actors ≡ slice_set old.actors who new → length mid.done ≡ length old.done → who < length old.actors
+    → ActorKeeps old.hands.lives who new → Keeps mid
+keeps_set old mid who new k hands actors done within own = record {
+  legal = rw hands k.legal;
+  kept = rw hands (k.kept ∙ sym (ap length actors ∙ length-set old.actors who new));
+  done = done ∙ k.done ∙ sym (ap length actors ∙ length-set old.actors who new);
+  each = λ v a at. rw hands (
+      elim (who == v) as (λ b. (who == v) ≡ b → cond b (Some new) (slice_get old.actors v) ≡ Some a → ActorKeeps old.hands.lives v a) [
+        | true ↦ λ q p. subst (λ (n : ℕ). ActorKeeps old.hands.lives n a) (nat_eq_true who v q) (subst (λ (x : Acting). ActorKeeps old.hands.lives who x) (some_same new a p) own)
+        | false ↦ λ q p. k.each v a p
+      ] refl (sym (slice_get-set old.actors who new v within) ∙ ap (λ (xs : List Acting). slice_get xs v) (sym actors) ∙ at));
+}
+
+others_set : (old mid : Staged) (who : ℕ) (new : Acting) → mid.actors ≡ slice_set old.actors who new → who < length old.actors → ((v : ℕ) (a : Acting) → slice_get old.actors v ≡ Some a → Rests a)
+    → (v : ℕ) (a : Acting) → (who == v) ≡ false → slice_get mid.actors v ≡ Some a → Rests a
+others_set old mid who new actors within rest v a apart at =
+    rest v a (rw apart at (sym (slice_get-set old.actors who new v within) ∙ ap (λ (xs : List Acting). slice_get xs v) (sym actors) ∙ at))
+
+-- a line is begun
+pub begin_ready : (old mid : Staged) (who : ℕ) (a : Acting) (action : Action) → AtRest old → slice_get old.actors who ≡ Some a → is_sound_action (length old.hands.lives) action ≡ true → mid.hands ≡ old.hands
+    → mid.actors ≡ slice_set old.actors who (started a (OneLine action)) → length mid.done ≡ length old.done → Ready mid who (first_wish a (OneLine action))
+begin_ready old mid who a action r is sound hands actors done =
+    let new = started a (OneLine action) in
+    let within : who < length old.actors = slice_get_within old.actors who a is in
+    let k = r.keeps.each who a is in
+    record {
+      keeps = keeps_set old mid who new r.keeps hands actors done within (record {
+        number = k.number;
+        calls = λ place aim at. fit_calls (length old.hands.lives) a.objects action k.objects sound place aim at;
+        objects = k.objects;
+        holds = λ t aim held at. absurd cc;
+      });
+      acting = new;
+      is = ap (λ (xs : List Acting). slice_get xs who) actors ∙ slice_get-set old.actors who new who within ∙ rw (nat_eq-same who) refl;
+      hand = ap (λ (h : Handed). h.hand) hands ∙ r.hand ∙ sym (hand_begins (OneLine action) (under_way new));
+      pending = pending_begins new refl;
+      wants = refl;
+      others = others_set old mid who new actors within r.rest;
+    }
+
+-- a parked actor is told to go on
+parked_next : (a : Acting) (p : Parks a) → next_wish a heard.Done ≡ makes (under_way a) a.ticket Nothing
+parked_next a p = rw p.holds refl
+
+hand_retry : (a : Acting) (p : Parks a) → hand_for (makes (under_way a) a.ticket Nothing) ≡ empty_hand
+hand_retry a p = rw (p.is, p.holds) refl
+
+pub resume_ready : (old mid : Staged) (who : ℕ) (a : Acting) → AtRest old → slice_get old.actors who ≡ Some a → Parks a → mid.hands ≡ old.hands
+    → mid.actors ≡ slice_set old.actors who (next_acting a heard.Done) → length mid.done ≡ length old.done → Ready mid who (next_wish a heard.Done)
+resume_ready old mid who a r is p hands actors done =
+    let new = next_acting a heard.Done in
+    let within : who < length old.actors = slice_get_within old.actors who a is in
+    let k = r.keeps.each who a is in
+    record {
+      keeps = keeps_set old mid who new r.keeps hands actors done within (record { number = k.number; calls = k.calls; objects = k.objects; holds = k.holds });
+      acting = new;
+      is = ap (λ (xs : List Acting). slice_get xs who) actors ∙ slice_get-set old.actors who new who within ∙ rw (nat_eq-same who) refl;
+      hand = ap (λ (h : Handed). h.hand) hands ∙ r.hand ∙ sym (ap hand_for (parked_next a p) ∙ hand_retry a p);
+      pending = subst (λ (w : Wish). Pending new w) (sym (parked_next a p))
+          (pending_makes new p.aim Nothing p.is refl (subst (λ (t : Option ℕ). IsRightFor t p.aim.call Nothing) (sym p.holds) tt));
+      wants = refl;
+      others = others_set old mid who new actors within r.rest;
+    }
+
+-- by its wants an actor at rest is told to be parked or free
+pub free_wants : (a : Acting) → Rests a → is_done_wanted a.wants ≡ false → (a.wants ≡ wanted.Nothing) × (a.ticket ≡ None)
+free_wants a (inl r) is = r
+free_wants a (inr r) is = let w = r.0 in absurd (let no : is_done_wanted wanted.Done ≡ false = ap is_done_wanted (sym w) ∙ is in cc)
+
+pub parked_parks : (a : Acting) → Rests a → is_done_wanted a.wants ≡ true → (a.wants ≡ wanted.Done) × Parks a
+parked_parks a (inr r) is = r
+parked_parks a (inl r) is = let w = r.0 in absurd (let no : is_done_wanted wanted.Nothing ≡ true = ap is_done_wanted (sym w) ∙ is in cc)
+
+-- and so it is by what it said
+nothing_wanted : (wish : Wish) → wants_after wish ≡ wanted.Nothing → wish ≡ wishes.LineEnd
+nothing_wanted wishes.LineEnd is = refl
+nothing_wanted _ is = absurd cc
+
+done_wanted : (wish : Wish) → wants_after wish ≡ wanted.Done → rests wish ≡ true → (object : ℕ) × (wish ≡ wishes.Park object)
+done_wanted (wishes.Park object) is r = (object, refl)
+done_wanted wishes.LineEnd is r = absurd cc
+done_wanted _ is r = absurd cc
+
+wants_of : (births : List Birth) (s : Setting) (world : List Happening) (stage : Staged) (who : ℕ) (a : Acting) → Stands births s world stage → slice_get stage.actors who ≡ Some a → wants_after (said_by s who world) ≡ a.wants
+wants_of births s world stage who a st is =
+    sym (ap (λ (x : Acting). x.wants) (st.actors who a is) ∙ wants_said who _ _ (events_of who world))
+
+pub said_end : (births : List Birth) (s : Setting) (world : List Happening) (stage : Staged) (who : ℕ) (a : Acting) → Stands births s world stage → slice_get stage.actors who ≡ Some a → a.wants ≡ wanted.Nothing
+    → said_by s who world ≡ wishes.LineEnd
+said_end births s world stage who a st is free = nothing_wanted (said_by s who world) (wants_of births s world stage who a st is ∙ free)
+
+pub said_park : (births : List Birth) (s : Setting) (world : List Happening) (stage : Staged) (who : ℕ) (a : Acting) → StandsAtRest births s world stage → slice_get stage.actors who ≡ Some a → a.wants ≡ wanted.Done
+    → (object : ℕ) × (said_by s who world ≡ wishes.Park object)
+said_park births s world stage who a st is waits = done_wanted (said_by s who world) (wants_of births s world stage who a st.stands is ∙ waits) (st.rest who)
+
+-- whether an actor is parked
+wants_park : (wish : Wish) → rests wish ≡ true → is_done_wanted (wants_after wish) ≡ is_park wish
+wants_park (wishes.Park object) is = refl
+wants_park wishes.LineEnd is = refl
+wants_park _ is = absurd cc
+
+pub parked_is : (births : List Birth) (s : Setting) (world : List Happening) (stage : Staged) (who : ℕ) (a : Acting) → StandsAtRest births s world stage → slice_get stage.actors who ≡ Some a
+    → is_waiting stage who ≡ is_parked s who world
+parked_is births s world stage who a st is =
+    ap waits_for_go is ∙ ap is_done_wanted (sym (wants_of births s world stage who a st.stands is)) ∙ wants_park (said_by s who world) (st.rest who)
+
+-- what happens to an actor moves no other one
+pub goes_others : (s : Setting) (who v : ℕ) (more before : List Happening) → (who == v) ≡ false → GoesOn s who more before → out_of s v (more ++ before) ≡ out_of s v before
+goes_others s who v [] before apart goes = refl
+goes_others s who v (d ∷ more) before apart goes =
+    let by = goes.1 in
+    let other : (d.who == v) ≡ false = rw by apart in
+    rw other (goes_others s who v more before apart goes.0)
+
+rest_more : (s : Setting) (who : ℕ) (more : List Happening) (event : Event) (world : List Happening) → GoesOn s who more (happens who event ∷ world) → rests (said_by s who (more ++ happens who event ∷ world)) ≡ true
+    → ((v : ℕ) → rests (said_by s v world) ≡ true) → (v : ℕ) → rests (said_by s v (more ++ happens who event ∷ world)) ≡ true
+rest_more s who more event world goes own others v =
+    elim (who == v) as (λ b. (who == v) ≡ b → rests (said_by s v (more ++ happens who event ∷ world)) ≡ true) [
+      | true ↦ λ q. subst (λ (n : ℕ). rests (said_by s n (more ++ happens who event ∷ world)) ≡ true) (nat_eq_true who v q) own
+      | false ↦ λ q. let same : out_of s v (happens who event ∷ world) ≡ out_of s v world = rw q refl in
+          ap (λ (o : Out). rests o.said) (goes_others s who v more (happens who event ∷ world) q goes ∙ same) ∙ others v
+    ] refl
+
+-- a line that is begun, as the world has it
+pub acted : (old mid new : Staged) (line : Line) (a : Acting) → slice_get old.actors line.actor ≡ Some a → a.wants ≡ wanted.Nothing → mid.hands ≡ old.hands
+    → mid.actors ≡ slice_set old.actors line.actor (started a (OneLine line.action)) → FollowsOn mid new line.actor (first_wish a (OneLine line.action)) → ActsOn old new line
+acted old mid new line a is free hands actors follows births s world st =
+    let who = line.actor in
+    let doing : Doing = OneLine line.action in
+    let begun = stands_begun births s world old mid who doing a st.stands (said_end births s world old who a st.stands is free) is hands actors in
+    let first : first_wish a doing ≡ said_by s who (happens who (Begins doing) ∷ world) =
+    ap (λ (x : Acting). first_wish x doing) (st.stands.actors who a is) ∙ ap (λ (o : Out). o.said) (sym (out_own s who (Begins doing) world)) in
+    let f = follows births s (happens who (Begins doing) ∷ world) begun first in
+    record {
+      now = f.more ++ happens who (Begins doing) ∷ world;
+      began = record { more = f.more; is = refl; goes = f.goes; answers = f.answers; rests = f.rests };
+      stands = record { stands = f.stands; rest = rest_more s who f.more (Begins doing) world f.goes f.rests st.rest };
+    }
+
+-- a parked actor that goes on, as the world has it
+pub resumed : (old mid new : Staged) (who : ℕ) (a : Acting) → slice_get old.actors who ≡ Some a → a.wants ≡ wanted.Done → mid.hands ≡ old.hands
+    → mid.actors ≡ slice_set old.actors who (next_acting a heard.Done) → FollowsOn mid new who (next_wish a heard.Done) → ResumesOn old new who
+resumed old mid new who a is waits hands actors follows births s world st =
+    let park = said_park births s world old who a st is waits in
+    let woken = stands_woken births s world old mid who park.0 a st.stands park.1 is hands actors in
+    let first : next_wish a heard.Done ≡ said_by s who (happens who (Hears heard.Done []) ∷ world) =
+    ap (λ (x : Acting). next_wish x heard.Done) (st.stands.actors who a is) ∙ ap (λ (o : Out). o.said) (sym (out_own s who (Hears heard.Done []) world)) in
+    let f = follows births s (happens who (Hears heard.Done []) ∷ world) woken first in
+    record {
+      more = f.more;
+      stands = record { stands = f.stands; rest = rest_more s who f.more (Hears heard.Done []) world f.goes f.rests st.rest };
+      goes = f.goes;
+      answers = f.answers;
+    }

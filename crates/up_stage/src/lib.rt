@@ -1,0 +1,12 @@
+//! A script, played on one thread: each actor with the queue of its lines, and the script that is made of a seed.
+#![tactic(auto)]
+
+mod actors;
+mod making;
+mod playing;
+mod stage;
+mod summing;
+
+pub use making::generate;
+pub use playing::play;
+pub use summing::{Summary, sum_up};
