@@ -1,5 +1,5 @@
 -- The entries of an actor are told by its lines in one way alone.
-use Rattle.std.proofs.Common.{◌≡◌, ℕ, zero, suc, ◌+◌, ◌<◌, ◌≤◌, ◌++◌, ◌⊎◌, ◌||◌, Bool, true, false, cond, Option, Some, None, List, [], ◌∷◌, length, refl, sym, ap, ◌∙◌, subst, arith, inl, inr, slice_get, append_assoc, length-append}
+use Rattle.std.proofs.Common.{◌≡◌, ℕ, zero, suc, ◌+◌, ◌≤◌, ◌++◌, ◌⊎◌, Bool, true, false, cond, Option, Some, None, List, [], ◌∷◌, length, refl, sym, ap, ◌∙◌, subst, arith, inl, inr, slice_get, append_assoc, length-append}
 use Rattle.up_script.specs.declared.script.Kind.{Kind}
 use Rattle.up_model.specs.declared.entry.Brought.{Brought}
 use Rattle.up_worker.specs.Calls.{bringing, calls_of, is_access}
@@ -7,6 +7,7 @@ use Rattle.up_worker.specs.Lives.{Entered}
 use Rattle.up_worker.specs.Wishes.{settles, is_refused, attempt}
 use Rattle.up_worker.specs.declared.course.Aim.{Aim}
 use Rattle.up_worker.specs.declared.course.Doing.{Doing}
+use Rattle.up_worker.proofs.Telling.{or_some}
 use Rattle.up_steps.specs.Asked.{settled_in, ticket_in, refused_in, IsNext, AreNext, IsDone}
 use Rattle.up_steps.specs.Told.{Told, ToldInPart}
 
@@ -14,7 +15,6 @@ use Rattle.up_steps.specs.Told.{Told, ToldInPart}
 abbrev tail_of : {X : Type 0} → List X → List X
 tail_of [] = []
 tail_of (x ∷ xs) = xs
-
 
 abbrev head_of : {X : Type 0} → X → List X → X
 head_of d [] = d
@@ -74,13 +74,9 @@ settled_grows : (more xs : List Entered) → settled_in xs ≤ settled_in (more 
 settled_grows [] xs = omega arith
 settled_grows (x ∷ more) xs = more_settled (settles x.entry.reply) (settled_in (more ++ xs)) (settled_in xs) (settled_grows more xs)
 
-or_right : (b c : Bool) → c ≡ true → (b || c) ≡ true
-or_right true c is = refl
-or_right false c is = is
-
 refused_stays : (more xs : List Entered) → refused_in xs ≡ true → refused_in (more ++ xs) ≡ true
 refused_stays [] xs is = is
-refused_stays (x ∷ more) xs is = or_right (is_refused x.entry.reply) (refused_in (more ++ xs)) (refused_stays more xs is)
+refused_stays (x ∷ more) xs is = or_some (is_refused x.entry.reply) (refused_in (more ++ xs)) (refused_stays more xs is)
 
 none_later : (line : List Aim) (n k : ℕ) → slice_get line n ≡ None → n ≤ k → slice_get line k ≡ None
 none_later [] n k none le = refl
@@ -246,7 +242,7 @@ told_for kind objects given later [] a x t is told = absurd (let long = ap lengt
 told_for kind objects given later (doing ∷ earlier) a x t is told =
     place_for kind objects given later doing earlier told.0 told.1 a x t is told.5 told.3 (split told.0 told.1 a x t (sym told.2))
     (λ s. told_for kind objects given (later ++ doing ∷ []) earlier s.more x t (is ∙ sym (append_assoc later (doing ∷ []) earlier))
-        (subst (λ xs. Told kind objects earlier xs) s.is told.5))
+    (subst (λ xs. Told kind objects earlier xs) s.is told.5))
 
 pub told_for_all : (kind : Kind) (objects : List ℕ) (given : List Doing) (a : List Entered) (x : Entered) (t : List Entered) → Told kind objects given (a ++ x ∷ t)
     → For kind objects given t x
@@ -257,4 +253,4 @@ pub part_for : (kind : Kind) (objects : List ℕ) (given : List Doing) (a : List
 part_for kind objects given a x t part =
     place_for kind objects given part.later part.doing part.earlier part.now part.old a x t part.lines part.before part.next (split part.now part.old a x t (sym part.is))
     (λ s. told_for kind objects given (part.later ++ part.doing ∷ []) part.earlier s.more x t (part.lines ∙ sym (append_assoc part.later (part.doing ∷ []) part.earlier))
-        (subst (λ xs. Told kind objects part.earlier xs) s.is part.before))
+    (subst (λ xs. Told kind objects part.earlier xs) s.is part.before))

@@ -1,5 +1,5 @@
 -- The block of an evictor's line that has one answer: an evict, a relief, a watch. And what an evictor's line leaves, of whichever kind it is.
-use Rattle.std.proofs.Common.{◌≡◌, ℕ, ◌+◌, ◌==◌, ◌&&◌, ◌⊎◌, ◌++◌, not, Bool, true, false, cond, is_some, Option, Some, None, List, [], ◌∷◌, refl, sym, ap, ◌∙◌, subst, arith, inl, inr, slice_get, append_assoc}
+use Rattle.std.proofs.Common.{◌≡◌, ℕ, ◌⊎◌, ◌++◌, true, false, List, [], ◌∷◌, refl, sym, ap, ◌∙◌, subst, inl, inr}
 use Rattle.up_model.specs.declared.entry.Call.{Call}
 use Rattle.up_model.specs.declared.entry.Call.TheVariants as calls
 use Rattle.up_model.specs.declared.entry.Reply.{Reply}
@@ -8,8 +8,6 @@ use Rattle.up_script.specs.Fit.{may_do}
 use Rattle.up_script.specs.Objects.{is_evictor}
 use Rattle.up_script.specs.declared.script.Action.{Action}
 use Rattle.up_script.specs.declared.script.Action.TheVariants as actions
-use Rattle.up_script.specs.declared.script.Kind.{Kind}
-use Rattle.up_script.specs.declared.script.Kind.TheVariants as kinds
 use Rattle.up_script.specs.declared.script.Line.{Line}
 use Rattle.up_worker.specs.Acting.{Acting, started, next_wish}
 use Rattle.up_worker.specs.Frames.{is_quiet}
@@ -20,12 +18,11 @@ use Rattle.up_worker.specs.declared.wish.Heard.{Heard}
 use Rattle.up_worker.specs.declared.wish.Heard.TheVariants as heard
 use Rattle.up_worker.specs.declared.wish.Wish.{Wish}
 use Rattle.up_worker.specs.declared.wish.Wish.TheVariants as wishes
-use Rattle.up_steps.specs.Asked.{parks}
-use Rattle.up_steps.specs.Steps.{Setting, Moment, moment_after, AllBy, AllAt, Stops, EvictsOne, Evictors}
+use Rattle.up_steps.specs.Steps.{Setting, Moment, moment_after, AllBy, AllAt, Stops, Evictors}
 use Rattle.up_steps.specs.Told.{own, last_parks, kind_at, objects_at}
 use Rattle.up_steps.specs.World.{Happening, happens, entries, events_of, said_by, made_by, moment_by, moment_at, moment_in, AllFair, IsCarried, Follows, OneThread, rests, GoesOn, AllAnswers, is_answer, Began}
-use Rattle.up_steps.proofs.Calling.{settled_parks_none, evicts_park_none}
-use Rattle.up_steps.proofs.Owning.{same_test, own_mine, carries_by, events_mine}
+use Rattle.up_steps.proofs.Calling.{evicts_park_none}
+use Rattle.up_steps.proofs.Owning.{own_mine, carries_by, events_mine}
 use Rattle.up_steps.proofs.Plainly.{out_after}
 use Rattle.up_steps.proofs.Evicting.{evictor_no_access, Evictor, EvictorAt, LineMade, evictor_begins, goes_evictor, evictor_ends}
 
@@ -227,7 +224,7 @@ did_evict s number who object limit most before now one b tail =
     let action = evict_line object limit most in
     let ends : EndsBy s (moment_in s before) who (begun_of who action before) (entries before) =
     (λ answer new c. ap (λ h. (out_after s who (Hears h new ∷ begun_of who action before)).said) c.carries.told
-        ∙ evict_ends (out_after s who (events_of who before)).acting object limit most c.carries.entry.reply (evict_settles who object limit most answer new c.fair c.carries)) in
+    ∙ evict_ends (out_after s who (events_of who before)).acting object limit most c.carries.entry.reply (evict_settles who object limit most answer new c.fair c.carries)) in
     let o = one_answer s (line_of number who action) before now one b refl ends in
     let does = o.carried.carries in
     did_evicts s (moment_in s before) who action (wishes.Act object (calls.Evict limit most)) (begun_of who action before) before now o

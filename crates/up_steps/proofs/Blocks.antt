@@ -1,26 +1,20 @@
 -- Blocks of happenings of actors that are no evictors, and where these actors stand between lines.
-use Rattle.std.proofs.Common.{◌≡◌, ℕ, ◌+◌, ◌==◌, ◌&&◌, ◌⊎◌, ◌++◌, not, Bool, true, false, cond, is_some, Option, Some, None, List, [], ◌∷◌, refl, sym, ap, ◌∙◌, subst, arith, inl, inr, slice_get, append_assoc}
-use Rattle.std.specs.Prelude.{sum}
-use Rattle.up_script.specs.Objects.{is_evictor}
-use Rattle.up_script.specs.declared.script.Action.{Action}
-use Rattle.up_script.specs.declared.script.Action.TheVariants as actions
+use Rattle.std.proofs.Common.{◌≡◌, ℕ, ◌==◌, ◌++◌, Bool, true, false, List, [], ◌∷◌, refl, sym, ap, ◌∙◌, subst}
 use Rattle.up_script.specs.declared.script.Line.{Line}
-use Rattle.up_worker.specs.Acting.{Acting, next_wish, next_acting}
+use Rattle.up_worker.specs.Acting.{Acting}
 use Rattle.up_worker.specs.Calls.{calls_of, is_access}
 use Rattle.up_worker.specs.Frames.{Judge}
 use Rattle.up_worker.specs.Lives.{Entered, Event, Begins, Hears, lines as begun}
-use Rattle.up_worker.specs.Wishes.{last_wish, last_of}
+use Rattle.up_worker.specs.Wishes.{last_wish}
 use Rattle.up_worker.specs.declared.course.Doing.{Doing}
-use Rattle.up_worker.specs.declared.course.Doing.TheVariants.{Idle, OneLine}
-use Rattle.up_worker.specs.declared.wish.Heard.TheVariants as heard
 use Rattle.up_worker.specs.declared.wish.Wish.{Wish}
 use Rattle.up_worker.specs.declared.wish.Wish.TheVariants as wishes
-use Rattle.up_steps.specs.Asked.{without_evicts, AreNext, IsDone}
-use Rattle.up_steps.specs.Steps.{Setting, Moment, first_moment, moment_after, judge_at, AllBy, AllAt, IsFramed, IsFar, GoesFar}
-use Rattle.up_steps.specs.Told.{own, last_parks, parked, is_go, given_to, kind_at, objects_at, Told, ToldInPart}
-use Rattle.up_steps.specs.World.{Happening, happens, entries, events_of, actor_at, said_by, made_by, moment_at, moment_in, Follows, OneThread, is_park, rests, is_parked, GoesOn, AllAnswers, is_answer}
-use Rattle.up_steps.proofs.Going.{Says, Going, going_woken}
-use Rattle.up_steps.proofs.Owning.{same_test, events_mine, events_other, kind_stays, objects_stay, doing_next}
+use Rattle.up_steps.specs.Asked.{without_evicts, AreNext}
+use Rattle.up_steps.specs.Steps.{Setting, Moment, first_moment, judge_at, IsFar}
+use Rattle.up_steps.specs.Told.{own, last_parks, parked, given_to, kind_at, objects_at, Told}
+use Rattle.up_steps.specs.World.{Happening, entries, events_of, actor_at, said_by, made_by, moment_at, moment_in, Follows, OneThread, is_park, rests, is_parked, GoesOn, AllAnswers, is_answer}
+use Rattle.up_steps.proofs.Going.{Says, Going}
+use Rattle.up_steps.proofs.Owning.{events_mine, events_other, kind_stays, objects_stay}
 use Rattle.up_steps.proofs.Plainly.{AllPlain, out_after, Plainly, told_more, plainly_more, plain_before, moment_stays}
 
 -- where an actor rests after its events, t being its entries

@@ -1,33 +1,20 @@
 -- Of calls, replies and evicts: what bringing frames leaves as it is, and what evicts leave as it was.
-use Rattle.std.proofs.Common.{◌≡◌, ℕ, ◌+◌, ◌==◌, ◌||◌, ◌++◌, not, Bool, true, false, cond, is_some, Option, Some, None, List, [], ◌∷◌, refl, sym, ap, ◌∙◌, subst, arith, inl, inr}
-use Rattle.std.proofs.lemmas.Bool.Decides.{nat_tests}
+use Rattle.std.proofs.Common.{◌≡◌, ℕ, ◌==◌, ◌++◌, Bool, true, false, cond, is_some, Option, Some, None, List, [], ◌∷◌, refl, sym, ap, ◌∙◌}
 use Rattle.up_model.specs.declared.entry.Brought.{Brought}
-use Rattle.up_model.specs.declared.entry.Brought.TheVariants.{Nothing}
 use Rattle.up_model.specs.declared.entry.Call.{Call}
 use Rattle.up_model.specs.declared.entry.Call.TheVariants as calls
 use Rattle.up_model.specs.declared.entry.Reply.{Reply}
 use Rattle.up_model.specs.declared.entry.Reply.TheVariants as replies
 use Rattle.up_worker.specs.Calls.{bringing, frames_before, borrows}
-use Rattle.up_worker.specs.Frames.{Judge, front, behind}
+use Rattle.up_worker.specs.Frames.{Judge}
 use Rattle.up_worker.specs.Lives.{Entered, is_evict, gives_pages, OwnEvicts}
-use Rattle.up_worker.specs.Wishes.{settles, is_refused, ticket_after, attempt}
+use Rattle.up_worker.specs.Wishes.{settles, attempt}
+use Rattle.up_worker.proofs.Framing.{same_before}
 use Rattle.up_steps.specs.Asked.{parks, may_park, without_evicts, supplied, AllBring}
 use Rattle.up_steps.specs.Steps.{Stops}
 use Rattle.up_steps.specs.Told.{last_parks}
-use Rattle.up_worker.specs.declared.course.Aim.{Aim}
 
 -- a call that brings something else
-pub before_brought : (b : Brought) (call : Call) → frames_before (bringing b call) ≡ frames_before call
-before_brought b (calls.Read piece last old) = refl
-before_brought b (calls.Write off bytes last old) = refl
-before_brought b (calls.Retry ticket old) = refl
-before_brought b (calls.Supply range bytes old) = refl
-before_brought b (calls.Dirty range old) = refl
-before_brought b (calls.Pin range old) = refl
-before_brought b (calls.Borrow page old) = refl
-before_brought b (calls.Vacate old) = refl
-before_brought b _ = refl
-
 pub borrows_brought : (b : Brought) (call : Call) → borrows (bringing b call) ≡ borrows call
 borrows_brought b (calls.Read piece last old) = refl
 borrows_brought b (calls.Write off bytes last old) = refl
@@ -83,7 +70,7 @@ supplies_borrow_none call some = by_borrow (borrows call) call refl some
 -- what is made for a call
 pub made_before : (b : Brought) (ticket : Option ℕ) (call : Call) → (is_some ticket ≡ true → may_park call ≡ true)
     → frames_before (bringing b (attempt ticket call)) ≡ frames_before call
-made_before b None call parking = before_brought b call
+made_before b None call parking = same_before b call
 made_before b (Some ticket) call parking = sym (parks_plain call (parking refl))
 
 pub made_borrows : (b : Brought) (ticket : Option ℕ) (call : Call) → (is_some ticket ≡ true → may_park call ≡ true)
@@ -97,21 +84,6 @@ made_parks b None call parks parking = sym (parks_brought b call) ∙ parks
 made_parks b (Some ticket) call parks parking = parking refl
 
 -- a resize is made of a resize alone
-of_resize : (b : Brought) (call : Call) (pages : ℕ) → calls.Resize pages ≡ bringing b call → call ≡ calls.Resize pages
-of_resize b (calls.Read piece last old) pages is = absurd cc
-of_resize b (calls.Write off bytes last old) pages is = absurd cc
-of_resize b (calls.Retry ticket old) pages is = absurd cc
-of_resize b (calls.Supply range bytes old) pages is = absurd cc
-of_resize b (calls.Dirty range old) pages is = absurd cc
-of_resize b (calls.Pin range old) pages is = absurd cc
-of_resize b (calls.Borrow page old) pages is = absurd cc
-of_resize b (calls.Vacate old) pages is = absurd cc
-of_resize b call pages is = sym is
-
-pub resize_of : (ticket : Option ℕ) (b : Brought) (call : Call) (pages : ℕ) → calls.Resize pages ≡ bringing b (attempt ticket call) → call ≡ calls.Resize pages
-resize_of None b call pages is = of_resize b call pages is
-resize_of (Some ticket) b call pages is = absurd cc
-
 -- replies
 pub settled_parks_none : (reply : Reply) → settles reply ≡ true → parks reply ≡ false
 settled_parks_none (replies.Needs m) is = absurd cc
@@ -119,21 +91,11 @@ settled_parks_none (replies.Blocked t) is = absurd cc
 settled_parks_none replies.Waiting is = absurd cc
 settled_parks_none _ is = refl
 
-pub unheld : (reply : Reply) (before : Option ℕ) → settles reply ≡ true → ticket_after reply before ≡ None
-unheld (replies.Needs m) before is = absurd cc
-unheld (replies.Blocked t) before is = absurd cc
-unheld replies.Waiting before is = absurd cc
-unheld _ before is = refl
-
 pages_park_none : (reply : Reply) → gives_pages reply ≡ true → parks reply ≡ false
 pages_park_none (replies.Pages pages) is = refl
 pages_park_none (replies.Blocked t) is = absurd cc
 pages_park_none replies.Waiting is = absurd cc
 pages_park_none _ is = refl
-
-pub or_none : (b c : Bool) → b ≡ false → c ≡ false → (b || c) ≡ false
-or_none true c is other = absurd cc
-or_none false c is other = other
 
 -- evicts
 pub evicts_gone : (who : ℕ) (made : List Entered) → OwnEvicts who made → without_evicts made ≡ []
@@ -165,21 +127,3 @@ evicts_stop who [] t own none stops = stops
 evicts_stop who (x ∷ made) t own none stops = (evicts_stop who made t own.3 none stops, evicts_park_none who made t own.3 none)
 
 -- evicts stand before the call for which they were made
-pub front_is : (who : ℕ) (made t : List Entered) → OwnEvicts who made → front t ≡ [] → front (made ++ t) ≡ made
-front_is who [] t own none = none
-front_is who (x ∷ made) t own none = let evict = own.1 in rw evict (ap (λ xs. x ∷ xs) (front_is who made t own.3 none))
-
-pub behind_same : (t : List Entered) → front t ≡ [] → behind t ≡ t
-behind_same [] none = refl
-behind_same (x ∷ t) none = by_test (is_evict x.entry.call) x t none
-  where
-    by_test : (test : Bool) (x : Entered) (t : List Entered) → cond test (x ∷ front t) [] ≡ [] → cond test (behind t) (x ∷ t) ≡ x ∷ t
-    by_test true x t none = absurd cc
-    by_test false x t none = refl
-
-pub behind_is : (who : ℕ) (made t : List Entered) → OwnEvicts who made → front t ≡ [] → behind (made ++ t) ≡ t
-behind_is who [] t own none = behind_same t none
-behind_is who (x ∷ made) t own none = let evict = own.1 in rw evict (behind_is who made t own.3 none)
-
-pub front_none : (x : Entered) (t : List Entered) → is_evict x.entry.call ≡ false → front (x ∷ t) ≡ []
-front_none x t evict = rw evict refl

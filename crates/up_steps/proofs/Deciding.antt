@@ -1,35 +1,24 @@
 -- Two lists of entries that are the steps of the same lines are one.
-use Rattle.std.proofs.Common.{◌≡◌, ℕ, ◌+◌, ◌-◌, ◌<◌, ◌==◌, ◌++◌, ◌⊎◌, Bool, true, false, cond, nat_le, Option, Some, None, List, [], ◌∷◌, length, refl, sym, ap, ◌∙◌, subst, arith, inl, inr, slice_get, append_assoc}
+use Rattle.std.proofs.Common.{◌≡◌, ℕ, ◌-◌, ◌++◌, ◌⊎◌, Bool, true, false, cond, nat_le, Option, Some, None, List, [], ◌∷◌, refl, sym, ap, ◌∙◌, subst, inl, inr}
 use Rattle.up_model.specs.declared.entry.Brought.{Brought}
-use Rattle.up_model.specs.declared.entry.Brought.TheVariants.{Nothing, Frames, Scanned}
 use Rattle.up_model.specs.declared.entry.Call.{Call}
-use Rattle.up_model.specs.declared.entry.Call.TheVariants as calls
 use Rattle.up_model.specs.declared.entry.Reply.{Reply}
-use Rattle.up_evictor.specs.Levels.{level_of, age_limits}
-use Rattle.up_evictor.specs.Relief.{Ask, turns}
+use Rattle.up_evictor.specs.Levels.{age_limits}
+use Rattle.up_evictor.specs.Relief.{turns}
 use Rattle.up_evictor.specs.declared.levels.Level.TheVariants.{Empty}
-use Rattle.up_script.specs.Objects.{is_evictor}
-use Rattle.up_script.specs.declared.script.Action.{Action}
-use Rattle.up_script.specs.declared.script.Action.TheVariants as actions
-use Rattle.up_script.specs.declared.script.Kind.{Kind}
-use Rattle.up_script.specs.declared.script.Line.{Line}
-use Rattle.up_worker.specs.Calls.{bringing, calls_in, borrows}
+use Rattle.up_worker.specs.Calls.{bringing, borrows}
 use Rattle.up_worker.specs.Frames.{Judge, front, behind, asked}
-use Rattle.up_worker.specs.Lives.{Entered, is_evict, OwnEvicts}
-use Rattle.up_worker.specs.Thread.{culls_of}
+use Rattle.up_worker.specs.Lives.{Entered, is_evict}
 use Rattle.up_worker.specs.Wishes.{attempt}
 use Rattle.up_worker.specs.declared.course.Aim.{Aim}
-use Rattle.up_worker.specs.declared.course.Doing.{Doing}
-use Rattle.up_steps.specs.Asked.{without_evicts, settled_in, ticket_in, AreNext, IsDone, or_supplied, wanted, Comes, Brings, AllBring}
-use Rattle.up_steps.specs.Laws.{Answered, StepsDecide}
-use Rattle.up_steps.specs.Steps.{Setting, Moment, moment_after, judge_at, AllBy, AllAt, Stops, IsFramed, EvictsOne, AllMade, OneCall, Evictors, IsFar, GoesFar, Does, Block, LineDone, Steps}
-use Rattle.up_steps.specs.Told.{own, last_parks, parked, is_go, given_to, kind_at, objects_at, Told}
-use Rattle.up_steps.proofs.Aligning.{done_none, Under, told_under_none, under_once, For, told_for_all, part_for}
-use Rattle.up_steps.proofs.Calling.{before_brought, borrows_brought, behind_same, without_append}
-use Rattle.up_steps.proofs.Chaining.{Chain, decided, Common, commons, same_next}
-use Rattle.up_steps.proofs.Going.{bring_again, same_wanted}
-use Rattle.up_steps.proofs.Owning.{own_mine}
-use Rattle.up_steps.proofs.Relieving.{Relieved, NextEvict, Evicts, AllEvicts, own_evict, front_evicts, IsRelief, relief_of, same_evict, ends_relief}
+use Rattle.up_steps.specs.Asked.{without_evicts, or_supplied, wanted, Comes, Brings, AllBring}
+use Rattle.up_steps.specs.Steps.{Setting, Moment, judge_at, IsFramed}
+use Rattle.up_worker.proofs.Framing.{same_before, behind_same}
+use Rattle.up_worker.proofs.Saying.{bringing_again}
+use Rattle.up_steps.proofs.Calling.{borrows_brought}
+use Rattle.up_steps.proofs.Chaining.{Chain, Common, same_next}
+use Rattle.up_steps.proofs.Going.{same_wanted}
+use Rattle.up_steps.proofs.Relieving.{NextEvict, Evicts, AllEvicts, front_evicts, IsRelief, relief_of, same_evict, ends_relief}
 
 -- which calls are under way after some entries, without evicts
 abbrev pub Ways : Type 1
@@ -144,20 +133,22 @@ gathered : (U : Ways) (s : Setting) (m : Moment) (due : List Entered → ℕ →
     → Chain (Common due start who m.ages) (evs ++ b) → Chain (Next U s m due start who) b → Chain (Next U s m due start who) (evs ++ b)
 gathered U s m due start who one ticket count b [] none under lends wants short all evicts common chain = chain
 gathered U s m due start who one ticket count b (x ∷ evs) none under lends wants short all evicts common chain =
-    let back = behind_evicts evs b all.1 none in
-    (
+    let back = behind_evicts evs b all.1 none in (
       gathered U s m due start who one ticket count b evs none under lends wants short all.1 evicts.0 common.0 chain,
-      (common.1, inl (record {
-        one = one;
-        ticket = ticket;
-        under = subst (λ ps. U ps one ticket) (sym (without_of evs b all.1)) under;
-        count = count;
-        lends = lends;
-        wants = ap (λ xs. or_supplied (asked xs) (attempt ticket one.call)) (back ∙ sym (behind_same b none)) ∙ wants;
-        short = ap (λ xs. nat_le count (s.home (xs ++ start))) back ∙ short;
-        next = subst (λ xs. NextEvict (count - s.home (xs ++ start)) (turns (age_limits Empty) s.objects) (front (evs ++ b)) x) (sym back)
-            (subst (λ xs. NextEvict (count - s.home (b ++ start)) (turns (age_limits Empty) s.objects) xs x) (sym (front_of evs b all.1 none)) evicts.1);
-      })),
+      (
+        common.1,
+        inl (record {
+          one = one;
+          ticket = ticket;
+          under = subst (λ ps. U ps one ticket) (sym (without_of evs b all.1)) under;
+          count = count;
+          lends = lends;
+          wants = ap (λ xs. or_supplied (asked xs) (attempt ticket one.call)) (back ∙ sym (behind_same b none)) ∙ wants;
+          short = ap (λ xs. nat_le count (s.home (xs ++ start))) back ∙ short;
+          next = subst (λ xs. NextEvict (count - s.home (xs ++ start)) (turns (age_limits Empty) s.objects) (front (evs ++ b)) x) (sym back)
+              (subst (λ xs. NextEvict (count - s.home (b ++ start)) (turns (age_limits Empty) s.objects) xs x) (sym (front_of evs b all.1 none)) evicts.1);
+        }),
+      ),
     )
 
 -- which call an entry is for
@@ -178,14 +169,14 @@ calling U s m start c x f b =
     let call = attempt f.ticket f.one.call in
     let j = judge_at s m in
     let lends : borrows x.entry.call ≡ borrows call = ap borrows f.made ∙ borrows_brought f.brought call in
-    let wants : wanted c x.entry.call ≡ wanted c call = ap (λ k. wanted c k) f.made ∙ same_wanted c (bringing f.brought call) call (before_brought f.brought call) in
+    let wants : wanted c x.entry.call ≡ wanted c call = ap (λ k. wanted c k) f.made ∙ same_wanted c (bringing f.brought call) call (same_before f.brought call) in
     record {
       one = f.one;
       ticket = f.ticket;
       under = f.under;
       object = f.object;
       brought = b.brought;
-      call = b.is ∙ (ap (λ k. bringing b.brought k) f.made ∙ bring_again b.brought f.brought call);
+      call = b.is ∙ (ap (λ k. bringing b.brought k) f.made ∙ bringing_again b.brought f.brought call);
       comes = subst (λ l. Comes j start c l (wanted c call) b.brought) lends (subst (λ w. Comes j start c (borrows x.entry.call) w b.brought) wants b.comes);
     }
 
@@ -215,8 +206,7 @@ chain_by : (test : Bool) (U : Ways) (s : Setting) (m : Moment) (due : List Enter
     → Chain (Next U s m due start who) (cond test (behind c) (x ∷ c))
 chain_by true U s m due start who c x is brings call common before chain = chain
 chain_by false U s m due start who c x is brings call common before chain =
-    let k = calling U s m start c x (call is) (brings is) in
-    (
+    let k = calling U s m start c x (call is) (brings is) in (
       chain_to (nat_le (count_of 0 (wanted c (attempt k.ticket k.one.call))) (s.home (behind c ++ start))) (borrows (attempt k.ticket k.one.call)) (wanted c (attempt k.ticket k.one.call))
           U s m due start who c x k refl refl k.comes refl before chain,
       (common, inr k),

@@ -1,6 +1,5 @@
 -- The block of an evictor's line.
-use Rattle.std.proofs.Common.{◌≡◌, ℕ, ◌+◌, ◌==◌, ◌&&◌, ◌⊎◌, ◌++◌, not, Bool, true, false, cond, is_some, Option, Some, None, List, [], ◌∷◌, map, refl, sym, ap, ◌∙◌, subst, arith, inl, inr, slice_get, append_assoc, zero, suc}
-use Rattle.std.specs.Prelude.{sum}
+use Rattle.std.proofs.Common.{◌≡◌, ℕ, ◌==◌, ◌&&◌, ◌++◌, Bool, true, false, cond, is_some, Option, Some, None, List, [], ◌∷◌, map, refl, sym, ap, ◌∙◌, subst, slice_get, append_assoc, zero, suc}
 use Rattle.up_model.specs.declared.entry.Brought.{Brought}
 use Rattle.up_model.specs.declared.entry.Brought.TheVariants.{Nothing}
 use Rattle.up_model.specs.declared.entry.Call.{Call}
@@ -16,24 +15,22 @@ use Rattle.up_script.specs.declared.script.Kind.{Kind}
 use Rattle.up_script.specs.declared.script.Kind.TheVariants as kinds
 use Rattle.up_worker.specs.Acting.{Acting, under_way, hears, first_wish, started, next_wish, next_acting}
 use Rattle.up_worker.specs.Calls.{bringing, bare, calls_of, calls_in, vacate_of, is_access, is_access_line, borrows, frames_before}
-use Rattle.up_worker.specs.Frames.{Judge, JudgedWish, is_quiet}
-use Rattle.up_worker.specs.Lives.{Entered, Event, Begins, Hears, led, is_told, Carries, DoneWithout}
+use Rattle.up_worker.specs.Frames.{JudgedWish, is_quiet}
+use Rattle.up_worker.specs.Lives.{Entered, Event, Begins, Hears, is_told, Carries, DoneWithout}
 use Rattle.up_worker.specs.Wishes.{settles, is_refused, attempt, act_on, makes, last_of, last_wish, begins_call, unsettled}
 use Rattle.up_worker.specs.declared.course.Aim.{Aim}
-use Rattle.up_worker.specs.declared.course.Doing.{Doing}
-use Rattle.up_worker.specs.declared.course.Doing.TheVariants.{Idle, OneLine}
+use Rattle.up_worker.specs.declared.course.Doing.TheVariants.{OneLine}
 use Rattle.up_worker.specs.declared.wish.Heard.{Heard}
 use Rattle.up_worker.specs.declared.wish.Heard.TheVariants as heard
 use Rattle.up_worker.specs.declared.wish.Wish.{Wish}
 use Rattle.up_worker.specs.declared.wish.Wish.TheVariants as wishes
-use Rattle.up_steps.proofs.DevSaying.{asks_again}
-use Rattle.up_steps.proofs.DevSaying.{after_unsettled}
+use Rattle.up_worker.proofs.Wished.{asks_again}
 use Rattle.up_steps.specs.Asked.{may_park, without_evicts, AreNext, IsDone}
 use Rattle.up_steps.specs.Steps.{Setting, Moment, moment_after, judge_at, AllBy, AllAt, Stops, AllMade}
 use Rattle.up_steps.specs.Told.{own, last_parks, kind_at, objects_at}
-use Rattle.up_steps.specs.World.{Happening, happens, entries, events_of, said_by, out_of, made_by, moment_at, moment_in, actor_at, moment_by, IsCarried, Follows, OneThread, GoesOn, AllAnswers, is_answer, is_parked, is_park, rests}
+use Rattle.up_steps.specs.World.{Happening, entries, events_of, said_by, made_by, moment_at, moment_in, actor_at, moment_by, IsCarried, Follows, OneThread, GoesOn, AllAnswers, is_answer, is_park, rests}
 use Rattle.up_steps.proofs.Calling.{without_append}
-use Rattle.up_steps.proofs.Going.{Says, Acts, Lasts, Going, ends_after, going_begins, going_hears}
+use Rattle.up_steps.proofs.Going.{Says, Lasts, Going, ends_after, going_begins, going_hears}
 use Rattle.up_steps.proofs.Owning.{own_mine, all_by, all_at, carries_by, doing_next, objects_stay, events_mine}
 use Rattle.up_steps.proofs.Plainly.{out_after, judged_of}
 

@@ -1,8 +1,8 @@
 -- What an actor's entries keep while it does a line: one answer after the other, for every judge of gatherings.
-use Rattle.std.proofs.Common.{◌≡◌, ℕ, ◌+◌, ◌==◌, ◌&&◌, ◌||◌, ◌⊎◌, ◌++◌, not, Bool, true, false, cond, is_some, Option, Some, None, List, [], ◌∷◌, refl, sym, ap, ◌∙◌, subst, arith, inl, inr, slice_get}
+use Rattle.std.proofs.Common.{◌≡◌, ℕ, ◌+◌, ◌==◌, ◌&&◌, ◌||◌, ◌++◌, Bool, true, false, cond, is_some, Option, Some, None, List, [], ◌∷◌, refl, sym, ap, ◌∙◌, subst, arith, inl, inr, slice_get}
 use Rattle.std.proofs.lemmas.Bool.Decides.{nat_tests}
 use Rattle.up_model.specs.declared.entry.Brought.{Brought}
-use Rattle.up_model.specs.declared.entry.Brought.TheVariants.{Nothing, Frames, Scanned}
+use Rattle.up_model.specs.declared.entry.Brought.TheVariants.{Nothing}
 use Rattle.up_model.specs.declared.entry.Call.{Call}
 use Rattle.up_model.specs.declared.entry.Call.TheVariants as calls
 use Rattle.up_model.specs.declared.entry.Entry.{Entry}
@@ -11,11 +11,11 @@ use Rattle.up_model.specs.declared.entry.Reply.TheVariants as replies
 use Rattle.up_claims.specs.declared.step.SiteReply.TheVariants as sites
 use Rattle.up_script.specs.declared.script.Action.{Action}
 use Rattle.up_script.specs.declared.script.Action.TheVariants as actions
-use Rattle.up_worker.specs.Acting.{Acting, under_way, hears, first_wish, started, next_wish, next_acting}
+use Rattle.up_worker.specs.Acting.{Acting, under_way, first_wish, started, next_wish, next_acting}
 use Rattle.up_worker.specs.Calls.{bringing, calls_of, borrows, frames_before, is_access}
 use Rattle.up_worker.specs.Frames.{Judge, JudgedWish, is_quiet, front, behind, asked, needed}
-use Rattle.up_worker.specs.Lives.{Entered, is_evict, is_aid, is_told, is_retry, is_waiting, OwnEvicts, MakesOne, ResizesOne, GathersSome, DoneWithout, Carries}
-use Rattle.up_worker.specs.Wishes.{settles, is_refused, ticket_after, attempt, act_on, makes, last_of, last_wish, begins_call, wants_frames, unsettled}
+use Rattle.up_worker.specs.Lives.{Entered, is_evict, is_told, is_retry, is_waiting, OwnEvicts, MakesOne, ResizesOne, DoneWithout, Carries}
+use Rattle.up_worker.specs.Wishes.{settles, is_refused, ticket_after, attempt, act_on, makes, last_of, last_wish, begins_call, unsettled}
 use Rattle.up_worker.specs.declared.course.Aim.{Aim}
 use Rattle.up_worker.specs.declared.course.Doing.{Doing}
 use Rattle.up_worker.specs.declared.course.Doing.TheVariants.{Idle, OneLine, Leaving}
@@ -23,14 +23,16 @@ use Rattle.up_worker.specs.declared.wish.Heard.{Heard}
 use Rattle.up_worker.specs.declared.wish.Heard.TheVariants as heard
 use Rattle.up_worker.specs.declared.wish.Wish.{Wish}
 use Rattle.up_worker.specs.declared.wish.Wish.TheVariants as wishes
-use Rattle.up_steps.proofs.DevSaying.{good, is_for, access_keeps}
-use Rattle.up_steps.proofs.DevSaying.{asks_again}
-use Rattle.up_steps.proofs.DevSaying.{after_unsettled}
+use Rattle.up_worker.proofs.Framing.{front_is, behind_same, behind_is, not_front, settled_unasked, wish_settled}
+use Rattle.up_worker.proofs.Ruling.{after_unsettled}
+use Rattle.up_worker.proofs.Saying.{bringing_again, good, is_for, access_keeps, resize_attempted}
+use Rattle.up_worker.proofs.Telling.{no_ticket, or_none, both_left, both_right, one_fails}
+use Rattle.up_worker.proofs.Wished.{asks_again}
 use Rattle.up_steps.specs.Asked.{parks, may_park, without_evicts, settled_in, ticket_in, refused_in, IsNext, AreNext, IsDone, supplied, or_supplied, wanted, Comes, Brings, AllBring}
 use Rattle.up_steps.specs.Steps.{Stops}
 use Rattle.up_steps.specs.Told.{last_parks}
 use Rattle.up_steps.specs.World.{AllFair, is_park}
-use Rattle.up_steps.proofs.Calling.{supplied_none, parks_supplies_none, supplies_some, supplies_borrow_none, made_before, made_borrows, made_parks, resize_of, settled_parks_none, unheld, or_none, evicts_gone, one_stays, evicts_bring, evicts_park_none, evicts_stop, front_is, behind_same, behind_is, front_none}
+use Rattle.up_steps.proofs.Calling.{supplied_none, parks_supplies_none, supplies_some, supplies_borrow_none, made_before, made_borrows, made_parks, settled_parks_none, evicts_gone, one_stays, evicts_bring, evicts_park_none, evicts_stop}
 
 abbrev pub aims : Acting → List Aim
 aims a = calls_of a.kind a.objects a.doing
@@ -220,17 +222,6 @@ record Known (j : Judge) (start : List Entered) (a : Acting) (now made : List En
   parks_of : may_park x.entry.call ≡ true → may_park one.call ≡ true
   retries : is_retry x.entry.call ≡ true → is_some a.ticket ≡ true
 
-pub bring_again : (b c : Brought) (call : Call) → bringing b (bringing c call) ≡ bringing b call
-bring_again b c (calls.Read piece last old) = refl
-bring_again b c (calls.Write off bytes last old) = refl
-bring_again b c (calls.Retry ticket old) = refl
-bring_again b c (calls.Supply range bytes old) = refl
-bring_again b c (calls.Dirty range old) = refl
-bring_again b c (calls.Pin range old) = refl
-bring_again b c (calls.Borrow page old) = refl
-bring_again b c (calls.Vacate old) = refl
-bring_again b c _ = refl
-
 pub same_wanted : (made : List Entered) (call other : Call) → frames_before call ≡ frames_before other → wanted made call ≡ wanted made other
 same_wanted made call other same = by_asked (asked (behind made)) call other same
   where
@@ -242,10 +233,10 @@ brings_made : (j : Judge) (start made : List Entered) (b : Brought) (ticket : Op
     → Comes j start made (borrows call) (wanted made call) b → Brings j start made (bringing b (attempt ticket call))
 brings_made j start made b ticket call parking comes = record {
   brought = b;
-  is = sym (bring_again b b (attempt ticket call));
+  is = sym (bringing_again b b (attempt ticket call));
   comes =
-    subst (λ l. Comes j start made l (wanted made (bringing b (attempt ticket call))) b) (sym (made_borrows b ticket call parking))
-    (subst (λ w. Comes j start made (borrows call) w b) (sym (same_wanted made (bringing b (attempt ticket call)) call (made_before b ticket call parking))) comes);
+      subst (λ l. Comes j start made l (wanted made (bringing b (attempt ticket call))) b) (sym (made_borrows b ticket call parking))
+      (subst (λ w. Comes j start made (borrows call) w b) (sym (same_wanted made (bringing b (attempt ticket call)) call (made_before b ticket call parking))) comes);
 }
 
 known : (j : Judge) (start : List Entered) (a : Acting) (now made : List Entered) (object : ℕ) (call : Call) (entry : Entry) → a.settled ≡ settled_in now
@@ -274,24 +265,8 @@ known j start a now made object call entry settled ticket told parking acts of_c
     }
 
 -- what follows on a reply
-settled_asks_none : (reply : Reply) → settles reply ≡ true → needed reply ≡ None
-settled_asks_none (replies.Needs m) is = absurd cc
-settled_asks_none _ is = refl
-
 quiet_more : (x : Entered) (made : List Entered) → is_evict x.entry.call ≡ false → settles x.entry.reply ≡ true → Quiet (x ∷ made)
-quiet_more x made evict settled = record { none = front_none x made evict; unasked = settled_asks_none x.entry.reply settled }
-
-both_left : (b c : Bool) → (b && c) ≡ true → b ≡ true
-both_left true c is = refl
-both_left false c is = absurd cc
-
-both_right : (b c : Bool) → (b && c) ≡ true → c ≡ true
-both_right true c is = is
-both_right false c is = absurd cc
-
-other_fails : (b c : Bool) → b ≡ true → (b && c) ≡ false → c ≡ false
-other_fails true c access is = is
-other_fails false c access is = absurd cc
+quiet_more x made evict settled = record { none = not_front x made evict; unasked = settled_unasked x.entry.reply settled }
 
 or_some : (b c : Bool) → b ≡ true → (b || c) ≡ true
 or_some true c is = refl
@@ -308,13 +283,7 @@ says_stopped true j start a now made t reply is quiet tail settled un calm stopp
 }
 says_stopped false j start a now made t reply is quiet tail settled un calm stopped free =
     says_begins j start a now made t (under_way a) refl settled un quiet
-    (λ access. free access (other_fails (is_access a.doing) (is_refused reply) access is)) tail calm
-
-wish_settled : (a : Acting) (reply : Reply) → settles reply ≡ true
-    → next_wish a (heard.Replied reply) ≡ cond (is_access a.doing && is_refused reply) wishes.LineEnd (begins_call a.doing (under_way (hears a (heard.Replied reply))))
-wish_settled a reply settled =
-    ap (λ s. cond s (cond (is_access a.doing && is_refused reply) wishes.LineEnd (begins_call a.doing (under_way (hears a (heard.Replied reply)))))
-    (unsettled (under_way (hears a (heard.Replied reply))) reply)) settled
+    (λ access. free access (one_fails (is_access a.doing) (is_refused reply) access is)) tail calm
 
 says_lent : (test : Bool) (j : Judge) (start : List Entered) (a : Acting) (now made t : List Entered) (one : Aim) (count : ℕ) → borrows one.call ≡ test
     → under_way a ≡ Some one → front made ≡ [] → wanted made one.call ≡ Some count → Free a now → Says j start a now made t (cond test wishes.Loan (wishes.Gather count))
@@ -364,7 +333,7 @@ holds_parking _ ticket one unmet some by_reply before = absurd cc
 parking_more : (done : Bool) (a : Acting) (reply : Reply) (one : Aim) → settles reply ≡ done → under_way a ≡ Some one → Parking a
     → (parks reply ≡ true → may_park one.call ≡ true) → Parking (next_acting a (heard.Replied reply))
 parking_more true a reply one settled way parking by_reply other there some =
-    absurd (let none = ap is_some (unheld reply a.ticket settled) in cc)
+    absurd (let none = ap is_some (no_ticket reply a.ticket settled) in cc)
 parking_more false a reply one unmet way parking by_reply other there some =
     let same : one ≡ other = (let e : Some one ≡ Some other = sym (asks_again a reply unmet ∙ way) ∙ there in cc) in
     subst (λ (k : Aim). may_park k.call ≡ true) same
@@ -379,14 +348,14 @@ says_replied true j start a now made t x settled k calm waits count =
     let after = next_acting a (heard.Replied reply) in
     subst (λ w. Says j start after (x ∷ now) (x ∷ made) (x ∷ t) w) (sym (wish_settled a reply settled))
     (says_stopped (is_access a.doing && is_refused reply) j start after (x ∷ now) (x ∷ made) (x ∷ t) reply refl
-    (quiet_more x made k.evict settled) (settled_parks_none reply settled) count (unheld reply a.ticket settled) calm
+    (quiet_more x made k.evict settled) (settled_parks_none reply settled) count (no_ticket reply a.ticket settled) calm
     (λ refused. or_some (is_refused reply) (refused_in now) refused)
     (λ access fine. or_none (is_refused reply) (refused_in now) fine (k.free access)))
 says_replied false j start a now made t x unmet k calm waits count =
     let reply = x.entry.reply in
     let after = next_acting a (heard.Replied reply) in
     subst (λ w. Says j start after (x ∷ now) (x ∷ made) (x ∷ t) w) (sym (after_unsettled a reply k.one unmet k.way))
-    (says_unsettled j start after (x ∷ now) (x ∷ made) (x ∷ t) k.one reply unmet (asks_again a reply unmet ∙ k.way) (front_none x made k.evict) refl refl
+    (says_unsettled j start after (x ∷ now) (x ∷ made) (x ∷ t) k.one reply unmet (asks_again a reply unmet ∙ k.way) (not_front x made k.evict) refl refl
     (λ access. or_none (is_refused reply) (refused_in now) (unmet_refuses_none reply unmet) (k.free access))
     (λ parked. parks_ticketed reply a.ticket waits parked))
 
@@ -444,14 +413,14 @@ going_resized j start a object pages now made t entry g of_call settled =
     let x = entered object entry in
     let after = next_acting a (heard.Site (sites.Resized entry.reply)) in
     let k = known j start a now made object (calls.Resize pages) entry g.settled g.ticket g.told g.parking g.says of_call in
-    let resizes = resize_of a.ticket g.says.brought g.says.one.call pages g.says.is in
+    let resizes = resize_attempted a.ticket g.says.brought g.says.one.call pages g.says.is in
     let there : under_way a ≡ Some (aim_on object (calls.Resize pages)) =
     g.says.way ∙ (ap (λ o. Some (aim_on o g.says.one.call)) (sym g.says.on) ∙ ap (λ c. Some (aim_on object c)) resizes) in
     let count : a.settled + 1 ≡ settled_in (x ∷ now) =
     ap (λ s. cond s (a.settled + 1) a.settled) (sym settled) ∙ settled_more (settles entry.reply) (settled_in now) a.settled g.settled in
     record {
       settled = count;
-      ticket = sym (unheld entry.reply (ticket_in now) settled);
+      ticket = sym (no_ticket entry.reply (ticket_in now) settled);
       next = (g.next, k.next);
       told = g.told;
       calm = g.calm;

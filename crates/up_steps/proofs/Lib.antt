@@ -4,10 +4,11 @@ mod Blocks
 mod Calling
 mod Chaining
 mod Deciding
-mod DevSaying
 mod Evicting
 mod Going
+mod Legally
 mod Lining
+mod Living
 mod Owning
 mod Plainly
 mod Relieving

@@ -1,5 +1,5 @@
 -- Line by line: all that happens at a line makes its block.
-use Rattle.std.proofs.Common.{◌≡◌, ℕ, ◌+◌, ◌<◌, ◌==◌, ◌&&◌, ◌⊎◌, ◌++◌, not, Bool, true, false, cond, is_some, Option, Some, None, List, [], ◌∷◌, length, refl, sym, ap, ◌∙◌, subst, arith, inl, inr, append_assoc, length-append}
+use Rattle.std.proofs.Common.{◌≡◌, ℕ, ◌<◌, ◌==◌, ◌&&◌, ◌⊎◌, ◌++◌, not, Bool, true, false, cond, is_some, Option, Some, None, List, [], ◌∷◌, length, refl, sym, ap, ◌∙◌, subst, arith, inl, inr, length-append}
 use Rattle.std.proofs.lemmas.Bool.Decides.{nat_tests}
 use Rattle.up_model.specs.declared.entry.Brought.TheVariants.{Nothing}
 use Rattle.up_model.specs.declared.entry.Call.{Call}
@@ -8,25 +8,23 @@ use Rattle.up_script.specs.Fit.{may_do}
 use Rattle.up_script.specs.Objects.{is_evictor}
 use Rattle.up_script.specs.declared.script.Action.{Action}
 use Rattle.up_script.specs.declared.script.Action.TheVariants as actions
-use Rattle.up_script.specs.declared.script.Kind.{Kind}
 use Rattle.up_script.specs.declared.script.Line.{Line}
 use Rattle.up_worker.specs.Acting.{Acting, under_way, next_wish, next_acting}
 use Rattle.up_worker.specs.Frames.{Judge, front}
-use Rattle.up_worker.specs.Lives.{Entered, Event, Begins, Hears, lines as begun, MakesOne}
-use Rattle.up_worker.specs.Wishes.{makes, last_of, last_wish}
+use Rattle.up_worker.specs.Lives.{Entered, Event, Begins, Hears, lines as begun}
+use Rattle.up_worker.specs.Wishes.{makes}
 use Rattle.up_worker.specs.declared.course.Aim.{Aim}
 use Rattle.up_worker.specs.declared.course.Doing.{Doing}
-use Rattle.up_worker.specs.declared.course.Doing.TheVariants.{Idle, OneLine}
-use Rattle.up_worker.specs.declared.wish.Heard.{Heard}
+use Rattle.up_worker.specs.declared.course.Doing.TheVariants.{OneLine}
 use Rattle.up_worker.specs.declared.wish.Heard.TheVariants as heard
 use Rattle.up_worker.specs.declared.wish.Wish.{Wish}
 use Rattle.up_worker.specs.declared.wish.Wish.TheVariants as wishes
 use Rattle.up_steps.specs.Laws.{StepsFollow}
-use Rattle.up_steps.specs.Steps.{Setting, Moment, first_moment, moment_after, judge_at, IsFramed, IsFar, GoesFar, Does, Block, LineDone, Steps}
-use Rattle.up_steps.specs.Told.{own, last_parks, parked, is_go, given_to, kind_at, objects_at}
-use Rattle.up_steps.specs.World.{Happening, happens, entries, events_of, said_by, made_by, moment_by, moment_at, moment_in, IsCarried, Follows, OneThread, is_park, rests, is_parked, GoesOn, Began, Woken, LineRan, Ran}
-use Rattle.up_steps.proofs.Answering.{LineDid, line_did}
-use Rattle.up_steps.proofs.Blocks.{Rested, going_moves, plainly_of, rested_of, rested_parked, Ended, goes_plainly, others_stay, answers_begin_none, one_before, Stands, far_of}
+use Rattle.up_steps.specs.Steps.{Setting, Moment, first_moment, moment_after, judge_at, IsFar, GoesFar, Does, Block, LineDone, Steps}
+use Rattle.up_steps.specs.Told.{own, last_parks, parked, is_go, given_to, kind_at}
+use Rattle.up_steps.specs.World.{Happening, happens, entries, events_of, said_by, made_by, moment_by, moment_in, Follows, OneThread, is_park, rests, is_parked, GoesOn, Began, Woken, LineRan, Ran}
+use Rattle.up_steps.proofs.Answering.{line_did}
+use Rattle.up_steps.proofs.Blocks.{going_moves, plainly_of, rested_of, rested_parked, Ended, goes_plainly, others_stay, answers_begin_none, one_before, Stands, far_of}
 use Rattle.up_steps.proofs.Evicting.{timed_last}
 use Rattle.up_steps.proofs.Going.{Says, Going, going_woken}
 use Rattle.up_steps.proofs.Owning.{same_test, own_other, events_mine, events_other}
@@ -143,14 +141,16 @@ waits_by : (evicts : Bool) (s : Setting) (line : Line) (earlier : List Line) (ev
 waits_by true s line earlier events t kind unless may held st = absurd (let none = ap is_park st.ended in cc)
 waits_by false s line earlier events t kind unless may held st =
     let plain = plain_line (kind_at s.actors line.actor) line.action may kind in
-    let given = given_mine line earlier unless in
-    (plain, record {
-      later = OneLine line.action ∷ st.later;
-      given = given ∙ ap (λ ds. OneLine line.action ∷ ds) st.given;
-      all = λ free. absurd cc;
-      plain = subst AllPlain (sym given) (plain, st.plain);
-      rested = st.rested;
-    })
+    let given = given_mine line earlier unless in (
+      plain,
+      record {
+        later = OneLine line.action ∷ st.later;
+        given = given ∙ ap (λ ds. OneLine line.action ∷ ds) st.given;
+        all = λ free. absurd cc;
+        plain = subst AllPlain (sym given) (plain, st.plain);
+        rested = st.rested;
+      },
+    )
 
 lined_waits : (s : Setting) (line : Line) (earlier : List Line) (before : List Happening) → is_go line.action ≡ false → is_parked s line.actor before ≡ true
     → may_do (kind_at s.actors line.actor) line.action ≡ true → StandsAt s earlier before line.actor → Lined s (line ∷ earlier) line before before
@@ -430,9 +430,10 @@ lined_wakes s line earlier before now one w is held kind st =
         by = e.plainly.by;
         epoch = e.plainly.epoch;
         stops = e.plainly.going.stops;
-        block = block_at true true s m (line ∷ earlier) line (entries before) e.plainly.made is (rested_parked s who (events_of who before) (own who (entries before)) st.rested ∙ held)
-            (some_made s (line ∷ earlier) who before now one w held waited e.plainly.made e.plainly.is,
-            does_at false s m (line ∷ earlier) who line.action (entries before) e.plainly.made kind (goes_far s (line ∷ earlier) who before now e stands));
+        block = block_at true true s m (line ∷ earlier) line (entries before) e.plainly.made is (rested_parked s who (events_of who before) (own who (entries before)) st.rested ∙ held) (
+          some_made s (line ∷ earlier) who before now one w held waited e.plainly.made e.plainly.is,
+          does_at false s m (line ∷ earlier) who line.action (entries before) e.plainly.made kind (goes_far s (line ∷ earlier) who before now e stands),
+        );
       };
       moment = e.moment ∙ sym (go_moment s m who line.action (entries now) is);
       others = λ other differs. ap (λ x. events_of other x) w.is ∙ (others_stay s who other w.more (happens who (Hears heard.Done []) ∷ before) w.goes differs

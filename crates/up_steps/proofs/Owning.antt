@@ -1,14 +1,13 @@
 -- One actor's entries and events among all.
-use Rattle.std.proofs.Common.{◌≡◌, ℕ, ◌==◌, ◌++◌, Bool, true, false, cond, List, [], ◌∷◌, refl, sym, ap, ◌∙◌, subst, arith}
+use Rattle.std.proofs.Common.{◌≡◌, ℕ, ◌==◌, ◌++◌, true, false, List, [], ◌∷◌, refl, sym, ap, ◌∙◌, subst, arith}
 use Rattle.std.proofs.lemmas.Bool.Decides.{nat_tests}
-use Rattle.up_worker.specs.Acting.{Acting, next_acting, started}
-use Rattle.up_script.specs.declared.script.Kind.{Kind}
-use Rattle.up_worker.specs.Lives.{Entered, Event, Begins, Hears, Out, led, leads, OwnEvicts, Carries}
+use Rattle.up_worker.specs.Acting.{Acting, next_acting}
+use Rattle.up_worker.specs.Lives.{Entered, Event, Begins, Hears, leads, OwnEvicts, Carries}
 use Rattle.up_worker.specs.declared.wish.Heard.{Heard}
 use Rattle.up_worker.specs.declared.wish.Heard.TheVariants as heard
 use Rattle.up_worker.specs.declared.wish.Wish.{Wish}
 use Rattle.up_worker.specs.declared.wish.Wish.TheVariants as wishes
-use Rattle.up_steps.specs.Steps.{Setting, AllBy, AllAt}
+use Rattle.up_steps.specs.Steps.{AllBy, AllAt}
 use Rattle.up_steps.specs.Told.{own}
 use Rattle.up_steps.specs.World.{Happening, events_of}
 

@@ -1,33 +1,30 @@
 -- The block of an actor that is no evictor: what its entries keep, event by event.
-use Rattle.std.proofs.Common.{◌≡◌, ℕ, ◌+◌, ◌==◌, ◌&&◌, ◌⊎◌, ◌++◌, not, Bool, true, false, cond, is_some, Option, Some, None, List, [], ◌∷◌, refl, sym, ap, ◌∙◌, subst, arith, inl, inr, slice_get, append_assoc}
+use Rattle.std.proofs.Common.{◌≡◌, ℕ, ◌++◌, true, false, List, [], ◌∷◌, refl, sym, ap, ◌∙◌, subst, append_assoc}
 use Rattle.std.specs.Prelude.{sum}
-
 use Rattle.up_script.specs.Fit.{may_do}
 use Rattle.up_script.specs.Objects.{is_evictor}
 use Rattle.up_script.specs.declared.script.Action.{Action}
 use Rattle.up_script.specs.declared.script.Action.TheVariants as actions
 use Rattle.up_script.specs.declared.script.Kind.{Kind}
-use Rattle.up_script.specs.declared.script.Kind.TheVariants as kinds
 use Rattle.up_model.specs.declared.entry.Call.{Call}
 use Rattle.up_model.specs.declared.entry.Call.TheVariants as calls
-use Rattle.up_worker.specs.Acting.{Acting, first_wish, started, next_wish, next_acting}
+use Rattle.up_worker.specs.Acting.{Acting, next_wish, next_acting}
 use Rattle.up_worker.specs.Calls.{calls_of, is_access}
-use Rattle.up_worker.specs.Frames.{Judge, JudgedWish, is_quiet}
-use Rattle.up_worker.specs.Lives.{Entered, Event, Begins, Hears, Out, led, leads, lines as begun, is_told, Carries}
+use Rattle.up_worker.specs.Frames.{JudgedWish, is_quiet}
+use Rattle.up_worker.specs.Lives.{Entered, Event, Begins, Hears, Out, leads, lines as begun, is_told}
 use Rattle.up_worker.specs.Thread.{DoneExactly}
 use Rattle.up_worker.specs.Wishes.{last_wish}
 use Rattle.up_worker.specs.declared.course.Doing.{Doing}
-use Rattle.up_worker.specs.declared.course.Doing.TheVariants.{Idle, OneLine}
+use Rattle.up_worker.specs.declared.course.Doing.TheVariants.{OneLine}
 use Rattle.up_worker.specs.declared.wish.Heard.{Heard}
-use Rattle.up_worker.specs.declared.wish.Heard.TheVariants as heard
 use Rattle.up_worker.specs.declared.wish.Wish.{Wish}
 use Rattle.up_worker.specs.declared.wish.Wish.TheVariants as wishes
 use Rattle.up_steps.specs.Asked.{without_evicts, AreNext, IsDone}
 use Rattle.up_steps.specs.Steps.{Setting, Moment, judge_at, AllBy, AllAt}
-use Rattle.up_steps.specs.Told.{own, last_parks, kind_at, objects_at, Told}
-use Rattle.up_steps.specs.World.{actor_at, made_by, moment_by, moment_at, IsCarried, Follows, is_park, rests}
+use Rattle.up_steps.specs.Told.{own, kind_at, objects_at, Told}
+use Rattle.up_steps.specs.World.{actor_at, made_by, moment_by, moment_at, IsCarried, Follows, is_park}
 use Rattle.up_steps.proofs.Calling.{without_append}
-use Rattle.up_steps.proofs.Going.{Quiet, Says, Going, going_begins, going_woken, going_hears}
+use Rattle.up_steps.proofs.Going.{Says, Going, going_begins, going_hears}
 use Rattle.up_steps.proofs.Owning.{own_mine, all_by, all_at, carries_by, doing_next, kind_stays, objects_stay}
 
 -- a line of an actor that is no evictor: its calls are told by their entries, and nothing is behind them

@@ -1,5 +1,5 @@
 -- A relief makes one list of evicts alone.
-use Rattle.std.proofs.Common.{◌≡◌, ℕ, ◌-◌, ◌<◌, ◌++◌, ◌⊎◌, Bool, true, false, cond, List, [], ◌∷◌, length, refl, sym, ap, ◌∙◌, subst, arith, inl, inr}
+use Rattle.std.proofs.Common.{◌≡◌, ℕ, ◌-◌, ◌<◌, ◌⊎◌, Bool, true, false, cond, List, [], ◌∷◌, refl, sym, ap, ◌∙◌, subst, arith, inl, inr}
 use Rattle.up_model.specs.declared.entry.Call.{Call}
 use Rattle.up_model.specs.declared.entry.Call.TheVariants as calls
 use Rattle.up_evictor.specs.Relief.{Ask, cull_of, Relieves}
@@ -80,15 +80,17 @@ one_evict : (want : ℕ) (asks : List Ask) (x : Entered) (before : List Entered)
     → (Culls want asks (culls_of before) → Evicts want asks before)
     → Culls want asks (cull_at x.object call (pages_given x.entry.reply) (culls_of before)) → Evicts want asks (x ∷ before)
 one_evict want asks x before (calls.Evict limit most) is evict rest culls =
-    let n = culls.1 in
-    (rest culls.0, record {
-      ask = n.ask;
-      more = n.more;
-      asks_are = n.asks_are;
-      some = n.some;
-      object = n.object;
-      call = is ∙ (ap (λ l. calls.Evict l most) n.limit ∙ ap (λ k. calls.Evict n.ask.limit k) n.most);
-    })
+    let n = culls.1 in (
+      rest culls.0,
+      record {
+        ask = n.ask;
+        more = n.more;
+        asks_are = n.asks_are;
+        some = n.some;
+        object = n.object;
+        call = is ∙ (ap (λ l. calls.Evict l most) n.limit ∙ ap (λ k. calls.Evict n.ask.limit k) n.most);
+      },
+    )
 one_evict want asks x before call is evict rest culls = absurd cc
 
 evicts_of : (want : ℕ) (asks : List Ask) (made : List Entered) → AllEvicts made → Culls want asks (culls_of made) → Evicts want asks made
@@ -112,8 +114,7 @@ first_of ask (one ∷ more) = one
 pub same_evict : (want : ℕ) (asks : List Ask) (before : List Entered) (x y : Entered) → NextEvict want asks before x → NextEvict want asks before y
     → (x.object ≡ y.object) × (x.entry.call ≡ y.entry.call)
 same_evict want asks before x y a b =
-    let same : a.ask ≡ b.ask = ap (λ xs. first_of a.ask xs) (sym a.asks_are ∙ b.asks_are) in
-    (
+    let same : a.ask ≡ b.ask = ap (λ xs. first_of a.ask xs) (sym a.asks_are ∙ b.asks_are) in (
       a.object ∙ (ap (λ (k : Ask). k.object) same ∙ sym b.object),
       a.call ∙ (ap (λ (k : Ask). calls.Evict k.limit (left_want want (culls_of before))) same ∙ sym b.call),
     )

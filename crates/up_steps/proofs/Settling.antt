@@ -1,5 +1,5 @@
 -- Line by line: the steps of lines are one list.
-use Rattle.std.proofs.Common.{◌≡◌, ℕ, ◌+◌, ◌-◌, ◌<◌, ◌==◌, ◌++◌, ◌⊎◌, not, Bool, true, false, cond, Option, Some, None, List, [], ◌∷◌, length, refl, sym, ap, ◌∙◌, subst, arith, inl, inr, slice_get, append_assoc}
+use Rattle.std.proofs.Common.{◌≡◌, ℕ, ◌-◌, ◌++◌, ◌⊎◌, Bool, true, false, cond, Option, Some, None, List, [], ◌∷◌, refl, sym, ap, ◌∙◌, subst, inl, inr, slice_get, append_assoc}
 use Rattle.up_model.specs.declared.entry.Call.{Call}
 use Rattle.up_model.specs.declared.entry.Call.TheVariants as calls
 use Rattle.up_model.specs.declared.entry.Reply.{Reply}
@@ -16,16 +16,16 @@ use Rattle.up_worker.specs.Lives.{Entered, is_evict, OwnEvicts}
 use Rattle.up_worker.specs.Thread.{culls_of}
 use Rattle.up_worker.specs.declared.course.Aim.{Aim}
 use Rattle.up_worker.specs.declared.course.Doing.{Doing}
-use Rattle.up_steps.specs.Asked.{parks, without_evicts, settled_in, ticket_in, AreNext, IsDone}
+use Rattle.up_steps.specs.Asked.{without_evicts, settled_in, ticket_in, AreNext, IsDone}
 use Rattle.up_steps.specs.Laws.{Answered, StepsDecide}
-use Rattle.up_steps.specs.Steps.{Setting, Moment, moment_after, AllBy, EvictsOne, AllMade, OneCall, Evictors, IsFar, GoesFar, Does, Block, LineDone, Steps}
+use Rattle.up_steps.specs.Steps.{Setting, Moment, moment_after, AllBy, EvictsOne, AllMade, OneCall, Evictors, IsFar, GoesFar, Does, Block, LineDone}
 use Rattle.up_steps.specs.Told.{own, last_parks, parked, is_go, given_to, kind_at, objects_at, Told, ToldInPart}
 use Rattle.up_steps.proofs.Aligning.{done_none, Under, told_under_none, under_once, For, told_for_all, part_for}
 use Rattle.up_steps.proofs.Calling.{without_append}
 use Rattle.up_steps.proofs.Chaining.{Chain, decided, Common, commons, same_next}
 use Rattle.up_steps.proofs.Deciding.{Ways, OneWay, Next, next_once, IsCall, AreCalls, whole_chain, some_under}
 use Rattle.up_steps.proofs.Owning.{own_mine}
-use Rattle.up_steps.proofs.Relieving.{Relieved, NextEvict, Evicts, own_evict, IsRelief, relief_of, same_evict, ends_relief}
+use Rattle.up_steps.proofs.Relieving.{Relieved, NextEvict, Evicts, own_evict, relief_of, same_evict, ends_relief}
 
 abbrev Rule : Type 0
 Rule = List Entered → ℕ → ℕ → ℕ → Call → Reply

@@ -1,7 +1,7 @@
 -- The small script's happenings, one after the other; and what isn't its steps.
-use Rattle.std.proofs.Common.{◌≡◌, ℕ, ◌++◌, Bool, true, false, List, [], ◌∷◌, Some, None, refl, sym, ap, ◌∙◌, subst, inl, inr, arith, append-nil}
+use Rattle.std.proofs.Common.{◌≡◌, ℕ, ◌++◌, true, false, List, [], ◌∷◌, refl, sym, ap, ◌∙◌, subst, inl, inr, arith, append-nil}
 use Rattle.up_model.specs.declared.entry.Brought.{Brought}
-use Rattle.up_model.specs.declared.entry.Brought.TheVariants.{Nothing, Frames, Scanned}
+use Rattle.up_model.specs.declared.entry.Brought.TheVariants.{Nothing, Frames}
 use Rattle.up_model.specs.declared.entry.Call.{Call}
 use Rattle.up_model.specs.declared.entry.Call.TheVariants as calls
 use Rattle.up_worker.specs.Lives.{Entered}
@@ -13,21 +13,39 @@ use Rattle.up_worker.specs.declared.course.Doing.TheVariants.{Idle, OneLine}
 use Rattle.up_steps.specs.Asked.{IsDone, AllBring}
 use Rattle.up_steps.specs.Told.{is_go, parked, kind_at, Told}
 use Rattle.up_steps.specs.Steps.{Moment, AllBy, judge_at, GoesFar, Does, Block, IsFar}
-use Rattle.up_steps.specs.Row.{setting, lines, world, by_line, reading, supplying, supplied_with, supply_line, read_line, blocked, taken, retried, read_bytes, packet_reply, after_read, after_packet, after_supply, IsOneThreads, RefusesMore, RefusesOther, RefusesNothing}
+use Rattle.up_steps.specs.Row.{setting, lines, world, by_line, reading, supplying, supplied_with, supply_line, read_line, blocked, taken, retried, read_bytes, packet_reply, after_read, after_packet, after_supply, IsOneThreads, HasItsSteps, RefusesMore, RefusesOther, RefusesNothing}
 use Rattle.up_steps.specs.World.{happens, OneThread, Ran}
 use Rattle.up_worker.specs.Lives.{Hears}
 use Rattle.up_worker.specs.declared.wish.Heard.TheVariants as heard
 use Rattle.up_model.specs.declared.entry.Reply.TheVariants as replies
+use Rattle.up_steps.proofs.Lining.{steps_follow}
 
 one_thread : OneThread setting world
-one_thread =
-    (((((((((tt, refl),
-    record { carries = record { entry = blocked.entry; is = refl; by = refl; of_call = refl; told = refl; waits = λ w. absurd cc }; exact = tt; epoch = (refl, tt); fair = (record { parking = λ p. refl; giving = λ e. absurd cc }, tt) }), refl),
-    record { carries = record { entry = taken.entry; is = refl; by = refl; of_call = refl; told = refl; waits = λ w. absurd cc }; exact = tt; epoch = (refl, tt); fair = (record { parking = λ p. absurd cc; giving = λ e. absurd cc }, tt) }), refl),
-    record { carries = record { brought = Frames 1; told = refl; own = tt }; exact = (Frames 1, refl, record { brings = refl; enough = λ e. refl; relieved = λ e. absurd cc }); epoch = tt; fair = tt }),
-    record { carries = record { entry = (supplied_with (Frames 1)).entry; is = refl; by = refl; of_call = refl; told = refl; waits = λ w. absurd cc }; exact = tt; epoch = (refl, tt); fair = (record { parking = λ p. absurd cc; giving = λ e. absurd cc }, tt) }),
-    record { carries = record { told = refl; none = refl }; exact = tt; epoch = tt; fair = tt }),
-    record { carries = record { entry = retried.entry; is = refl; by = refl; of_call = refl; told = refl; waits = λ w. absurd cc }; exact = tt; epoch = (refl, tt); fair = (record { parking = λ p. absurd cc; giving = λ e. absurd cc }, tt) })
+one_thread = (
+  (
+    (
+      (
+        (
+          (
+            (
+              (
+                (tt, refl),
+                record { carries = record { entry = blocked.entry; is = refl; by = refl; of_call = refl; told = refl; waits = λ w. absurd cc }; exact = tt; epoch = (refl, tt); fair = (record { parking = λ p. refl; giving = λ e. absurd cc }, tt) },
+              ),
+              refl,
+            ),
+            record { carries = record { entry = taken.entry; is = refl; by = refl; of_call = refl; told = refl; waits = λ w. absurd cc }; exact = tt; epoch = (refl, tt); fair = (record { parking = λ p. absurd cc; giving = λ e. absurd cc }, tt) },
+          ),
+          refl,
+        ),
+        record { carries = record { brought = Frames 1; told = refl; own = tt }; exact = (Frames 1, refl, record { brings = refl; enough = λ e. refl; relieved = λ e. absurd cc }); epoch = tt; fair = tt },
+      ),
+      record { carries = record { entry = (supplied_with (Frames 1)).entry; is = refl; by = refl; of_call = refl; told = refl; waits = λ w. absurd cc }; exact = tt; epoch = (refl, tt); fair = (record { parking = λ p. absurd cc; giving = λ e. absurd cc }, tt) },
+    ),
+    record { carries = record { told = refl; none = refl }; exact = tt; epoch = tt; fair = tt },
+  ),
+  record { carries = record { entry = retried.entry; is = refl; by = refl; of_call = refl; told = refl; waits = λ w. absurd cc }; exact = tt; epoch = (refl, tt); fair = (record { parking = λ p. absurd cc; giving = λ e. absurd cc }, tt) },
+)
 
 ran : Ran setting lines world
 ran = (
@@ -68,6 +86,9 @@ ran = (
 
 pub is_one_threads : IsOneThreads
 is_one_threads = (one_thread, ran)
+
+pub has_its_steps : HasItsSteps
+has_its_steps = steps_follow setting lines world one_thread ran
 
 -- the only block of one line is all
 alone : (made start : List Entered) (x : Entered) → x ∷ [] ≡ made ++ start → start ≡ [] → made ≡ x ∷ []

@@ -1,10 +1,13 @@
 -- What one thread makes of a script's lines, and of each actor's.
 use Rattle.std.specs.Prelude.{◌≡◌, ℕ, true, List, [], ◌∷◌}
 use Rattle.up_script.specs.declared.script.Line.{Line}
+use Rattle.up_model.specs.Legal.{Legal}
+use Rattle.up_model.specs.declared.entry.Birth.{Birth}
 use Rattle.up_model.specs.declared.entry.Call.{Call}
 use Rattle.up_model.specs.declared.entry.Reply.{Reply}
 use Rattle.up_worker.specs.Lives.{Entered, is_told, lines as begun}
 use Rattle.up_worker.specs.Rules.{Rules}
+use Rattle.up_worker.specs.Thread.{of_object}
 use Rattle.up_worker.specs.declared.course.Doing.{Doing}
 use Rattle.up_steps.specs.Steps.{Setting, Moment, Steps}
 use Rattle.up_steps.specs.Told.{own}
@@ -32,3 +35,13 @@ abbrev pub StepsDecide : Type 0
 StepsDecide =
     (s : Setting) (due : List Entered → ℕ → ℕ → ℕ → Call → Reply) (lines : List Line) (m k : Moment) (g h : List Entered) → Steps s lines m g → Steps s lines k h
     → Answered due g → Answered due h → (g ≡ h) × (m ≡ k)
+
+-- each object's journal is legal
+abbrev pub AreLegal : (ℕ → Birth) → List Entered → Type 0
+AreLegal births g = (object : ℕ) → Legal (births object) (of_object object g)
+
+-- the entries that lines make of objects with these births are decided
+abbrev pub LinesDecide : Type 0
+LinesDecide =
+    (s : Setting) (births : ℕ → Birth) (lines : List Line) (m k : Moment) (g h : List Entered) → Steps s lines m g → Steps s lines k h → AreLegal births g
+    → AreLegal births h → (g ≡ h) × (m ≡ k)

@@ -90,6 +90,10 @@ world = happens 0 (Hears (heard.Replied read_bytes) (retried ∷ [])) ∷ happen
 abbrev pub IsOneThreads : Type 0
 IsOneThreads = OneThread setting world × Ran setting lines world
 
+-- and its four entries are the steps of the lines
+abbrev pub HasItsSteps : Type 0
+HasItsSteps = Steps setting lines (record { ages = 0; kept = 0 ∷ 0 ∷ [] }) (retried ∷ supplied_with (Frames 1) ∷ taken ∷ blocked ∷ [])
+
 -- a supply alone brings one frame, and is its pager's
 abbrev pub supply_line : List Line
 supply_line = by_line 6 1 supplying ∷ []

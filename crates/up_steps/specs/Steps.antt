@@ -1,6 +1,6 @@
 -- What all entries of a script's objects are where its lines are done in order on one thread. They stand in one list, each with its object, newest first, and
 -- are cut into blocks, one for each line; lines stand newest first too.
-use Rattle.std.specs.Prelude.{◌≡◌, ℕ, ◌+◌, ◌-◌, not, Bool, true, false, List, [], ◌∷◌, ◌++◌, map, sum, slice_set, slice_index, min, ◌^◌}
+use Rattle.std.specs.Prelude.{◌≡◌, ℕ, ◌+◌, ◌-◌, Bool, true, false, List, [], ◌∷◌, ◌++◌, map, sum, slice_set, slice_index, ◌^◌, min}
 use Rattle.up_model.specs.declared.entry.Call.{Call}
 use Rattle.up_model.specs.declared.entry.Call.TheVariants as calls
 use Rattle.up_evictor.specs.Levels.{level_of, age_limits}
@@ -36,7 +36,7 @@ pub record Moment : Type 0 where
 abbrev pub first_moment : Setting → Moment
 first_moment s = record { ages = 0; kept = map (λ actor. 0) s.actors }
 
--- After a line of this actor, where these are all entries: an age makes the clock one older, after a recall all loaned frames that are at home are kept,
+-- After a line of this actor, where these are all entries: an age makes the clock one older up to its end, after a recall all loaned frames that are at home are kept,
 -- and a lend gives back those that this actor keeps.
 abbrev pub moment_after : Setting → Moment → ℕ → Action → List Entered → Moment
 moment_after s m who actions.Age now = record { ages = min (m.ages + 1) (2 ^ 64 - 1); kept = m.kept }

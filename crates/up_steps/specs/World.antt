@@ -1,8 +1,6 @@
 -- What happens where one thread does all that actors wish, line by line. Happenings, entries and lines stand newest first.
-use Rattle.std.specs.Prelude.{◌≡◌, ℕ, ◌+◌, ◌==◌, Bool, true, false, cond, not, List, [], ◌∷◌, ◌++◌, sum, slice_set, slice_index, min, ◌^◌, ◌-◌}
-use Rattle.up_model.specs.declared.entry.Entry.{Entry}
+use Rattle.std.specs.Prelude.{◌≡◌, ℕ, ◌+◌, ◌==◌, Bool, true, false, cond, List, [], ◌∷◌, ◌++◌, sum, slice_set, slice_index, ◌-◌, ◌^◌, min}
 use Rattle.up_script.specs.Fit.{may_do}
-use Rattle.up_script.specs.declared.script.ActorLine.{ActorLine}
 use Rattle.up_script.specs.declared.script.Line.{Line}
 use Rattle.up_worker.specs.Acting.{Acting, unborn}
 use Rattle.up_worker.specs.Lives.{Entered, Event, Begins, Hears, Out, leads, lines as begun, is_evict, gives_pages, Carries}

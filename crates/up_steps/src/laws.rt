@@ -1,21 +1,29 @@
 //! What follows where one thread does what actors wish, line by line.
 
-ghost use Rattle.up_steps.specs.Laws.{StepsFollow, StepsDecide};
-ghost use Rattle.up_steps.specs.Row.{IsOneThreads, RefusesMore, RefusesOther, RefusesNothing};
+ghost use Rattle.up_steps.specs.Laws.{StepsFollow, StepsDecide, LinesDecide, KeepsRules};
+ghost use Rattle.up_steps.specs.Row.{IsOneThreads, HasItsSteps, RefusesMore, RefusesOther, RefusesNothing};
 
 /// Where each event follows on what its actor said, is done exactly, and the lines are gone through in order, all entries are the steps of these lines.
 pub fn doing_wishes_makes_the_steps()
     ensures { StepsFollow }
 {}
 
-/// Two lists of entries that are the steps of the same lines, and whose replies are given by the same rule, are one list.
+/// Two lists of entries that are the steps of the same lines, and whose replies are given by the same rule, are one list. So lines decide all entries of
+/// objects with given births, where these have legal journals.
 pub fn the_steps_decide_the_entries()
-    ensures { StepsDecide }
+    ensures steps { StepsDecide }
+    ensures legal { LinesDecide }
 {}
 
-/// A read that blocks, a packet, a supply and a go, as they happen, are one thread's.
+/// While a call of an actor is pending, its next entry that is no evict is for that call, and while it holds a ticket it is the retry of it.
+pub fn each_actor_keeps_the_rules()
+    ensures { KeepsRules }
+{}
+
+/// A read that blocks, a packet, a supply and a go, as they happen, are one thread's, and their entries are the steps of these lines.
 pub fn a_small_script_is_done_so()
-    ensures { IsOneThreads }
+    ensures happens { IsOneThreads }
+    ensures steps { HasItsSteps }
 {}
 
 /// One frame too many, an entry of another actor, and a line that isn't done are no steps of a line.

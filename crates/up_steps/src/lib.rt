@@ -1,9 +1,9 @@
-//! What all entries of a script's objects are where its lines are done in order on one thread, and that doing what actors wish makes them so.
+//! What all entries of a script's objects are where its lines are done in order on one thread: they are decided by the lines, and doing what actors wish makes them so.
 #![tactic(auto)]
 
 mod laws;
 
 pub use laws::{
-    a_small_script_is_done_so, doing_wishes_makes_the_steps, other_entries_are_no_steps,
-    the_steps_decide_the_entries,
+    a_small_script_is_done_so, doing_wishes_makes_the_steps, each_actor_keeps_the_rules,
+    other_entries_are_no_steps, the_steps_decide_the_entries,
 };

@@ -55,7 +55,7 @@ ready_act : (j : Judge) (aim : Option Aim) (ticket : Option ℕ) (t : List Enter
 ready_act j aim ticket t object (calls.Resize pages) has = has
 ready_act j aim ticket t object call has = has
 
-same_before : (b : Brought) (call : Call) → frames_before (bringing b call) ≡ frames_before call
+pub same_before : (b : Brought) (call : Call) → frames_before (bringing b call) ≡ frames_before call
 same_before b (calls.Read piece last old) = refl
 same_before b (calls.Write off bytes last old) = refl
 same_before b (calls.Retry ticket old) = refl
@@ -101,7 +101,7 @@ ready_retry j (Some one) (Some tk) t some quiet =
     ready_act j (Some one) (Some tk) t one.object (calls.Retry tk Nothing) (bare_made j t (calls.Retry tk Nothing) quiet refl)
 
 -- evicts stand before the call for which they were made
-front_is : (who : ℕ) (made t : List Entered) → OwnEvicts who made → front t ≡ [] → front (made ++ t) ≡ made
+pub front_is : (who : ℕ) (made t : List Entered) → OwnEvicts who made → front t ≡ [] → front (made ++ t) ≡ made
 front_is who [] t own none = none
 front_is who (x ∷ made) t own none = let evict = own.1 in rw evict (ap (λ xs. x ∷ xs) (front_is who made t own.3 none))
 
@@ -109,7 +109,7 @@ behind_one : (test : Bool) (x : Entered) (t : List Entered) → cond test (x ∷
 behind_one true x t none = absurd cc
 behind_one false x t none = refl
 
-behind_same : (t : List Entered) → front t ≡ [] → behind t ≡ t
+pub behind_same : (t : List Entered) → front t ≡ [] → behind t ≡ t
 behind_same [] none = refl
 behind_same (x ∷ t) none = by_test (is_evict x.entry.call) x t none
   where
@@ -117,7 +117,7 @@ behind_same (x ∷ t) none = by_test (is_evict x.entry.call) x t none
     by_test true x t none = absurd cc
     by_test false x t none = refl
 
-behind_is : (who : ℕ) (made t : List Entered) → OwnEvicts who made → front t ≡ [] → behind (made ++ t) ≡ t
+pub behind_is : (who : ℕ) (made t : List Entered) → OwnEvicts who made → front t ≡ [] → behind (made ++ t) ≡ t
 behind_is who [] t own none = behind_same t none
 behind_is who (x ∷ made) t own none = let evict = own.1 in rw evict (behind_is who made t own.3 none)
 
@@ -153,11 +153,11 @@ ready_lent j (Some one) ticket t b ready judged =
     (inr (inr (record { count = ready.2.0; brought = b; quiet = ready.1; asks = ready.2.1; brings = sym (bringing_again b b (attempt ticket one.call)); judged = judged })))
 
 -- after a reply
-settled_unasked : (reply : Reply) → settles reply ≡ true → needed reply ≡ None
+pub settled_unasked : (reply : Reply) → settles reply ≡ true → needed reply ≡ None
 settled_unasked (replies.Needs m) is = absurd cc
 settled_unasked _ is = refl
 
-not_front : (x : Entered) (t : List Entered) → is_evict x.entry.call ≡ false → front (x ∷ t) ≡ []
+pub not_front : (x : Entered) (t : List Entered) → is_evict x.entry.call ≡ false → front (x ∷ t) ≡ []
 not_front x t evict = rw evict refl
 
 ready_settled : (stops : Bool) (j : Judge) (aim : Option Aim) (t : List Entered) (doing : Doing) → is_quiet doing ≡ true → Quiet t
@@ -200,7 +200,7 @@ frames_evicts : (j : Judge) (who : ℕ) (made t : List Entered) → OwnEvicts wh
 frames_evicts j who [] t own frames = frames
 frames_evicts j who (x ∷ made) t own frames = (frames_evicts j who made t own.3 frames, λ no. absurd (let evict = own.1 in cc))
 
-wish_settled : (a : Acting) (reply : Reply) → settles reply ≡ true
+pub wish_settled : (a : Acting) (reply : Reply) → settles reply ≡ true
     → next_wish a (heard.Replied reply) ≡ cond (is_access a.doing && is_refused reply) wishes.LineEnd (begins_call a.doing (under_way (hears a (heard.Replied reply))))
 wish_settled a reply settled =
     ap (λ s. cond s (cond (is_access a.doing && is_refused reply) wishes.LineEnd (begins_call a.doing (under_way (hears a (heard.Replied reply)))))

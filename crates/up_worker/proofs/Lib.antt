@@ -1,7 +1,7 @@
-mod PieceAt
-mod Keeping
-mod Wished
-mod Saying
-mod Telling
-mod Ruling
-mod Framing
+pub mod PieceAt
+pub mod Keeping
+pub mod Wished
+pub mod Saying
+pub mod Telling
+pub mod Ruling
+pub mod Framing

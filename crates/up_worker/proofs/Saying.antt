@@ -176,7 +176,7 @@ resize_is b (calls.Borrow page old) pages is = absurd cc
 resize_is b (calls.Vacate old) pages is = absurd cc
 resize_is b call pages is = sym is
 
-resize_attempted : (ticket : Option ℕ) (b : Brought) (call : Call) (pages : ℕ) → calls.Resize pages ≡ bringing b (attempt ticket call) → call ≡ calls.Resize pages
+pub resize_attempted : (ticket : Option ℕ) (b : Brought) (call : Call) (pages : ℕ) → calls.Resize pages ≡ bringing b (attempt ticket call) → call ≡ calls.Resize pages
 resize_attempted None b call pages is = resize_is b call pages is
 resize_attempted (Some ticket) b call pages is = absurd cc
 

@@ -144,11 +144,11 @@ state_same who kind objects left doing ticket wants now old earlier all made t s
 }
 
 -- the call is settled
-or_none : (b c : Bool) → b ≡ false → c ≡ false → (b || c) ≡ false
+pub or_none : (b c : Bool) → b ≡ false → c ≡ false → (b || c) ≡ false
 or_none true c is other = absurd cc
 or_none false c is other = other
 
-or_some : (b c : Bool) → c ≡ true → (b || c) ≡ true
+pub or_some : (b c : Bool) → c ≡ true → (b || c) ≡ true
 or_some true c is = refl
 or_some false c is = is
 
@@ -167,15 +167,15 @@ no_ticket _ before is = refl
 free_more : (doing : Doing) (m : Main) (now : List Main) → (is_access doing ≡ true → m.refused ≡ false) → Free doing now → Free doing (m ∷ now)
 free_more doing m now fine free access = or_none m.refused (any_refused now) (fine access) (free access)
 
-both_left : (b c : Bool) → (b && c) ≡ true → b ≡ true
+pub both_left : (b c : Bool) → (b && c) ≡ true → b ≡ true
 both_left true c is = refl
 both_left false c is = absurd cc
 
-both_right : (b c : Bool) → (b && c) ≡ true → c ≡ true
+pub both_right : (b c : Bool) → (b && c) ≡ true → c ≡ true
 both_right true c is = is
 both_right false c is = absurd cc
 
-one_fails : (b c : Bool) → b ≡ true → (b && c) ≡ false → c ≡ false
+pub one_fails : (b c : Bool) → b ≡ true → (b && c) ≡ false → c ≡ false
 one_fails true c access is = is
 one_fails false c access is = absurd cc
 
