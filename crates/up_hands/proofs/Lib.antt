@@ -1,0 +1,12 @@
+pub mod Entered
+pub mod Owned
+pub mod Replied
+pub mod Carrying
+pub mod InHand
+pub mod Flocking
+pub mod Acting
+pub mod Ended
+pub mod Kept
+pub mod Born
+pub mod Homes
+pub mod Alive

@@ -1,5 +1,5 @@
 -- What is done for an actor's wish.
-use Rattle.std.specs.Prelude.{◌≡◌, ℕ, ◌+◌, ◌<◌, Bool, true, false, Option, Some, None, List, [], ◌∷◌, ◌++◌, length, sum, min, slice_get, slice_set, slice_index, IsTrue}
+use Rattle.std.specs.Prelude.{◌≡◌, ℕ, ◌+◌, ◌<◌, Bool, true, false, Option, Some, None, List, [], ◌∷◌, ◌++◌, length, sum, min, slice_get, slice_set, slice_index, IsTrue, Result, IfOk}
 use Rattle.up_clock.specs.Known.{last_age}
 use Rattle.up_model.specs.Legal.{Life}
 use Rattle.up_model.specs.Reply.{proper}
@@ -15,7 +15,7 @@ use Rattle.up_worker.specs.declared.wish.Heard.{Heard}
 use Rattle.up_worker.specs.declared.wish.Heard.TheVariants as heard
 use Rattle.up_worker.specs.declared.wish.Wish.{Wish}
 use Rattle.up_worker.specs.declared.wish.Wish.TheVariants as wishes
-use Rattle.up_hands.specs.Handed.{InHand, empty_hand, Handed, lives_of, home, loans}
+use Rattle.up_hands.specs.Handed.{InHand, empty_hand, Handed, lives_of, births_in, home, loans}
 
 -- steps of the sample pager, and the end of a line, are nothing for hands
 abbrev pub is_done_here : Wish → Bool
@@ -88,3 +88,13 @@ pub record CarriedOut (births : List Birth) (old new : Handed) (who : ℕ) (wish
   pub carries : Carries who wish answer made
   pub exact : DoneExactly (home old.frames births) (loans old.loan (sum old.kept) births) old.levels (length births) wish answer made g
   pub epoch : AllAt old.ages made
+
+-- where a wish was carried out, for all births and entries for which the objects stood before
+abbrev pub Done : {E : Type 0} → Handed → Handed → ℕ → Wish → Result Heard E → Type 0
+Done old new who wish result =
+    IfOk result (λ heard. (births : List Birth) (g : List Entered) → old.lives ≡ lives_of births g → CarriedOut births old new who wish heard g)
+
+-- births and the number of actors stay
+pub record SameShape (old new : Handed) : Type 0 where
+  pub births : births_in new.lives ≡ births_in old.lives
+  pub actors : length new.kept ≡ length old.kept

@@ -1,2 +1,11 @@
 pub mod Handed
 pub mod Carried
+pub mod Entering
+pub mod Pools
+pub mod Soles
+pub mod Paired
+pub mod Machines
+pub mod Machined
+pub mod Flocks
+pub mod Keeping
+pub mod Standing
