@@ -34,7 +34,7 @@ impl Model for SoleBank {
 impl SoleBank {
     /// So many frames, all at home.
     pub fn new(alloc: Global, kind: FrameKind, frames: u32) -> Result<SoleBank, Memory>
-        requires { frames ≤ most_frames kind }
+        requires { frames ≤ most_frames }
         ensures kind { IfOk result (λ made. made.bank.kind ≡ kind) }
         ensures home { IfOk result (λ made. made.home ≡ frames) }
     {
