@@ -99,7 +99,7 @@ pub put_two : (old one two : List Line) (a b : OwnAction) (first second : Action
     → one ≡ old ++ put (7 + length old) a.actor first ∷ [] → two ≡ one ++ put (7 + length one) b.actor second ∷ [] → two ≡ old ++ numbered (7 + length old) (a ∷ b ∷ [])
 put_two old one two a b first second is_first is_second to_one to_two =
     two_more old one two a b (to_one ∙ ap (λ action. old ++ put (7 + length old) a.actor action ∷ []) is_first)
-        (to_two ∙ ap (λ action. one ++ put (7 + length one) b.actor action ∷ []) is_second)
+    (to_two ∙ ap (λ action. one ++ put (7 + length one) b.actor action ∷ []) is_second)
 
 pub short_round : (old two : List Line) (number round : ℕ) → two ≡ old ++ numbered (7 + length old) (supplies (page_in number) ∷ accesses number round ∷ [])
     → (round % 16 ≡ 0 → ⊥) → two ≡ old ++ numbered (7 + length old) (round_of number round)

@@ -16,5 +16,5 @@ returns-in-Write c =
     let off = c.in-Write.off in
     write_told birth h off c.in-Write.bytes c.in-Write.last c.in-Write.brought c.needs_to_write.result
     (c.needs_to_write.ensures
-      ∙ ap (λ len. write_needs (nat_le (off + len) (4096 * size birth h)) (there birth h (page_of off)) (birth.trap && not (dirty birth h (page_of off))) (needs_own_frame birth h (page_of off))) c.len.ensures)
+    ∙ ap (λ len. write_needs (nat_le (off + len) (4096 * size birth h)) (there birth h (page_of off)) (birth.trap && not (dirty birth h (page_of off))) (needs_own_frame birth h (page_of off))) c.len.ensures)
     ∙ ap (needed birth h) (sym c.in-Write.is)

@@ -15,5 +15,5 @@ returns-then-waiter c =
     let waiter = c.waiter-waiter.result.now in
     freed_write birth h (parked h c.args.ticket) waiter.off waiter.len waiter.last.0 waiter.write waiter.bytes c.needs_to_write.result
     (c.needs_to_write.ensures
-      ∙ ap (λ len. write_needs (nat_le (waiter.off + len) (4096 * size birth h)) (there birth h (page_of waiter.off)) (birth.trap && not (dirty birth h (page_of waiter.off))) (needs_own_frame birth h (page_of waiter.off))) c.from.ensures)
+    ∙ ap (λ len. write_needs (nat_le (waiter.off + len) (4096 * size birth h)) (there birth h (page_of waiter.off)) (birth.trap && not (dirty birth h (page_of waiter.off))) (needs_own_frame birth h (page_of waiter.off))) c.from.ensures)
     c.waiter-waiter.ensures.access c.if-waiter.true
