@@ -1,5 +1,5 @@
 -- A script that is done today can be played.
-use Rattle.std.proofs.Common.{◌≡◌, ℕ, ◌&&◌, Bool, true, false, cond, Option, Some, None, List, [], ◌∷◌, length, refl}
+use Rattle.std.proofs.Common.{◌≡◌, ℕ, ◌&&◌, Bool, true, false, Option, Some, None, List, [], ◌∷◌, length, refl}
 use Rattle.std.specs.List.{list_all}
 use Rattle.up_model.proofs.Bools.{and_left, and_right}
 use Rattle.up_script.specs.Fit.{Fits, is_fit_actor, is_fit_line}

@@ -17,8 +17,8 @@ use Rattle.std.specs.Prelude.{Contains, codes}
 use Rattle.pagerd.specs.declared.top.Ended.{Ended}
 use Rattle.pagerd.specs.declared.top.Ended.TheVariants.{Written, Generated, Illegal, Words, Unread, Source, Sink, Memory}
 use Rattle.pagerd.specs.Built.{unbuilt_line}
-use Rattle.pagerd.specs.Generated.{IsGen, IsNoGen}
-use Rattle.pagerd.specs.Top.{IsStep, IsCheck, ToldFront, TookFront, generated_line, HasFault, HasUnbuilt, HasJournalFault, SpellsLegal, SpellsIllegal, WasRead, IsScript, HasJournals, Took, whole_journals, text_fault, unbuilt_fault, legal_journals, illegal_journals, journals_fault, longest_script, status_of}
+use Rattle.pagerd.specs.Generated.{IsGen}
+use Rattle.pagerd.specs.Top.{IsStep, IsCheck, ToldFront, TookFront, generated_line, HasFault, HasUnbuilt, WasRead, IsScript, HasJournals, Took, whole_journals, text_fault, unbuilt_fault, legal_journals, illegal_journals, journals_fault, longest_script, status_of}
 
 pub status_listed : (ended : Ended) → Contains (0 ∷ 1 ∷ 2 ∷ 3 ∷ 4 ∷ 5 ∷ 7 ∷ []) (status_of ended)
 status_listed Written = (0, lit< tt, refl)

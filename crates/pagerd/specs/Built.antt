@@ -1,5 +1,5 @@
 -- Which scripts are done today: the forms that are built.
-use Rattle.std.specs.Prelude.{ℕ, ◌&&◌, not, Bool, true, false, cond, List, [], ◌∷◌, Option, Some, None}
+use Rattle.std.specs.Prelude.{ℕ, not, Bool, cond, List, [], ◌∷◌, Option, Some, None}
 use Rattle.up_model.specs.declared.entry.Birth.{Birth}
 use Rattle.up_script.specs.Objects.{is_worker}
 use Rattle.up_script.specs.declared.script.ActorLine.{ActorLine}
