@@ -1,7 +1,6 @@
 -- What is known of a line that is able to be done, and of the actor that does it.
-use Rattle.std.proofs.Common.{◌≡◌, ℕ, ◌<◌, ◌&&◌, Bool, true, false, Option, Some, None, List, length, refl, sym, ap, ◌∙◌, subst, slice_get, nat_lt, arith}
+use Rattle.std.proofs.Common.{◌≡◌, ℕ, ◌<◌, true, false, Some, None, List, sym, ap, ◌∙◌, slice_get}
 use Rattle.std.proofs.lemmas.Bool.{ltb-true}
-use Rattle.std.proofs.lemmas.Option.{slice_get_within}
 use Rattle.up_model.proofs.Bools.{and_left, and_right}
 use Rattle.up_script.specs.Sound.{is_sound_line, is_sound_action}
 use Rattle.up_script.specs.declared.script.Line.{Line}
@@ -9,10 +8,9 @@ use Rattle.up_worker.specs.Acting.{Acting}
 use Rattle.up_worker.specs.declared.wish.Wanted.TheVariants as wanted
 use Rattle.up_stage.specs.Calls.{is_played}
 use Rattle.up_stage.specs.Played.{is_able_line, are_able}
-use Rattle.up_stage.specs.Ready.{Rests, AtRest, Parks, waits_for_go, is_waiting, is_done_wanted}
+use Rattle.up_stage.specs.Ready.{AtRest, Parks, waits_for_go, is_waiting}
 use Rattle.up_stage.specs.Staged.{Staged}
 use Rattle.up_stage.proofs.Beginning.{all_at}
-use Rattle.up_stage.proofs.Lives.{get_some}
 use Rattle.up_stage.proofs.Resting.{free_wants, parked_parks}
 
 pub able_at : (objects actors : ℕ) (lines : List Line) (at : ℕ) (line : Line) → are_able objects actors lines ≡ true → slice_get lines at ≡ Some line → is_able_line objects actors line ≡ true

@@ -1,5 +1,5 @@
 -- A script's objects and actors before its first line, and what was played at its end.
-use Rattle.std.proofs.Common.{◌≡◌, ℕ, ◌+◌, ◌<◌, ◌≤◌, ◌&&◌, ◌++◌, Bool, true, false, Option, Some, None, List, [], ◌∷◌, zero, suc, length, map, take, replicate, reverse, refl, sym, ap, ◌∙◌, subst, inl, inr, slice_get, slice_index, nat_lt, arith}
+use Rattle.std.proofs.Common.{◌≡◌, ℕ, ◌+◌, ◌≤◌, ◌&&◌, ◌++◌, Bool, true, false, Some, List, [], ◌∷◌, zero, suc, length, map, take, replicate, reverse, refl, sym, ap, ◌∙◌, subst, inl, slice_get, slice_index, nat_lt, arith}
 use Rattle.std.specs.List.{list_all}
 use Rattle.std.proofs.lemmas.Bool.{ltb-true}
 use Rattle.std.proofs.lemmas.List.{length-replicate, length-map, length-take-le}
@@ -9,26 +9,24 @@ use Rattle.up_model.specs.declared.entry.Birth.{Birth}
 use Rattle.up_model.specs.declared.entry.Entry.{Entry}
 use Rattle.up_script.specs.declared.script.ObjectLine.{ObjectLine}
 use Rattle.up_stage.proofs.Lining.{take_more}
-use Rattle.up_hands.specs.Handed.{is_fair, lives_from, lives_of, new_life, ends_of, AllLegal}
+use Rattle.up_hands.specs.Handed.{Handed, empty_hand, is_fair, lives_from, new_life, ends_of, AllLegal}
 use Rattle.up_script.specs.Actions.{kind_of}
-use Rattle.up_script.specs.Sound.{is_sound_object, is_fair_object, is_sound, are_sound_objects, is_sound_line, are_sound_lines}
+use Rattle.up_script.specs.Sound.{is_sound_object, is_fair_object, is_sound, is_sound_line, are_sound_lines}
 use Rattle.up_script.specs.declared.script.ActorLine.{ActorLine}
-use Rattle.up_script.specs.declared.script.Kind.{Kind}
 use Rattle.up_script.specs.declared.script.Line.{Line}
 use Rattle.up_script.specs.declared.script.Script.{Script}
 use Rattle.up_steps.specs.Laws.{StepsFollow}
-use Rattle.up_steps.specs.Steps.{Setting, Steps}
 use Rattle.up_steps.specs.Told.{given_to, kind_at, objects_at, objects_in}
 use Rattle.up_steps.specs.World.{moment_in, entries, Ran}
 use Rattle.up_worker.specs.Acting.{Acting, unborn}
 use Rattle.up_stage.specs.Staged.{Staged, unborn_from}
 use Rattle.up_stage.specs.Ready.{ActorKeeps, Rests, AtRest}
-use Rattle.up_stage.specs.Worlds.{Stands, StandsAtRest}
-use Rattle.up_stage.specs.Lines.{Paced, Gone, GoesThrough, is_own_line}
-use Rattle.up_stage.specs.Played.{births_of, setting_of, AreJournalsOf, is_played_line, is_bound_to, IsPlayable, is_able_line, are_able, IsNew}
+use Rattle.up_stage.specs.Worlds.{StandsAtRest}
+use Rattle.up_stage.specs.Lines.{Paced, GoesThrough, is_own_line}
+use Rattle.up_stage.specs.Played.{levels_in, births_of, setting_of, AreJournalsOf, is_played_line, is_bound_to, IsPlayable, are_able, IsNew}
 use Rattle.up_stage.proofs.Lives.{some_same}
 
-unborn_count : (n : ℕ) (actors : List ActorLine) → length (unborn_from n actors) ≡ length actors
+pub unborn_count : (n : ℕ) (actors : List ActorLine) → length (unborn_from n actors) ≡ length actors
 unborn_count n [] = refl
 unborn_count n (a ∷ more) = let rest = unborn_count (n + 1) more in omega arith
 
@@ -89,6 +87,13 @@ born_keeps objects actors bound lives count who a is =
           rw count below;
       holds = λ t aim held at. absurd cc;
     })
+
+-- a stage of such parts is a new one
+pub new_is : (script : Script) (hands : Handed) (actors : List Acting) (done : List ℕ) (births : List Birth) (count : ℕ)
+    → hands ≡ record { lives = map new_life births; frames = script.frames; loan = script.loan; kept = replicate count 0; ages = 0; levels = levels_in script; hand = empty_hand }
+    → births ≡ births_of script.objects → actors ≡ unborn_from 0 script.actors → count ≡ length script.actors → done ≡ replicate (length script.actors) 0
+    → IsNew script (record { hands = hands; actors = actors; done = done })
+new_is script hands actors done births count held born unborn many begun = rw (held, born, many, unborn, begun) refl
 
 pub new_rests : (script : Script) (stage : Staged) → IsPlayable script → IsNew script stage → AtRest stage
 new_rests script stage able is = subst AtRest (sym is) (record {

@@ -1,24 +1,23 @@
 -- The calls of a sound line are fit.
-use Rattle.std.proofs.Common.{◌≡◌, ℕ, ◌+◌, ◌-◌, ◌*◌, ◌/◌, ◌%◌, ◌<◌, ◌≤◌, ◌==◌, ◌&&◌, Bool, true, false, Option, Some, None, List, [], ◌∷◌, zero, suc, length, map, take, drop, refl, sym, ap, ◌∙◌, subst, slice_get, nat_le, nat_lt, arith}
-use Rattle.std.proofs.lemmas.Bool.{leb-true, ltb-true, eq-eqb}
+use Rattle.std.proofs.Common.{◌≡◌, ℕ, ◌+◌, ◌-◌, ◌*◌, ◌/◌, ◌%◌, ◌<◌, ◌≤◌, ◌==◌, ◌&&◌, Bool, true, false, Some, List, [], ◌∷◌, zero, suc, length, map, take, drop, refl, sym, subst, slice_get, nat_le, nat_lt, arith}
+use Rattle.std.proofs.lemmas.Bool.{ltb-true}
 use Rattle.std.proofs.lemmas.Bool.Decides.{nat_tests}
 use Rattle.std.proofs.lemmas.List.{length-take-le, length-drop}
 use Rattle.up_num.proofs.Cuts.{all_joined}
 use Rattle.up_num.specs.Pieces.{pieces, Consecutive}
 use Rattle.up_num.specs.declared.pages.Piece.{Piece}
-use Rattle.up_model.proofs.Bools.{and_left, and_right, nat_eq_true}
-use Rattle.up_model.specs.Reply.{is_piece, within_page}
+use Rattle.up_model.proofs.Bools.{and_left, and_right}
+use Rattle.up_model.specs.Reply.{is_piece}
 use Rattle.up_model.specs.declared.entry.Call.{Call}
 use Rattle.up_model.specs.declared.entry.Call.TheVariants as calls
-use Rattle.up_script.specs.Sound.{is_within, is_sound_range, is_sound_call, is_sound_action, brings_nothing}
+use Rattle.up_script.specs.Sound.{is_within, is_sound_call, is_sound_action, brings_nothing}
 use Rattle.up_script.specs.declared.script.Action.{Action}
 use Rattle.up_script.specs.declared.script.Action.TheVariants as actions
-use Rattle.up_worker.specs.Acting.{Acting, is_plain, started}
-use Rattle.up_worker.specs.Calls.{bare, calls_in, read_of, write_of, vacate_of, last_page, fits_line}
+use Rattle.up_worker.specs.Acting.{is_plain}
+use Rattle.up_worker.specs.Calls.{bare, calls_in, read_of, write_of, vacate_of, fits_line}
 use Rattle.up_worker.specs.declared.course.Aim.{Aim}
-use Rattle.up_worker.specs.declared.course.Doing.TheVariants.{OneLine}
 use Rattle.up_steps.specs.Told.{is_go}
-use Rattle.up_stage.specs.Calls.{is_fit_call, IsFitAim, AreFitCalls, is_played}
+use Rattle.up_stage.specs.Calls.{is_fit_call, IsFitAim, is_played}
 use Rattle.up_stage.proofs.Lives.{some_same}
 
 -- a piece of an access, within one page of it

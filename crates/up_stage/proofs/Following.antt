@@ -1,6 +1,5 @@
 -- An actor's wishes are carried out one after the other.
-use Rattle.std.proofs.Common.{◌≡◌, ℕ, ◌<◌, ◌++◌, Bool, true, false, Option, Some, None, List, [], ◌∷◌, length, refl, sym, ap, ◌∙◌, subst, slice_get, slice_set, arith}
-use Rattle.std.proofs.lemmas.List.{length-set}
+use Rattle.std.proofs.Common.{◌≡◌, ℕ, ◌<◌, ◌++◌, true, false, Option, Some, None, List, [], length, refl, sym, ap, ◌∙◌, subst, slice_get, slice_set, arith}
 use Rattle.up_model.specs.Legal.{Life}
 use Rattle.up_model.specs.declared.entry.Birth.{Birth}
 use Rattle.up_model.specs.declared.entry.Call.{Call}
@@ -8,29 +7,25 @@ use Rattle.up_model.specs.declared.entry.Call.TheVariants as calls
 use Rattle.up_model.specs.Reply.{proper}
 use Rattle.up_model.specs.Tickets.{owner, spent}
 use Rattle.up_stage.specs.Calls.{IsRightFor}
-use Rattle.up_core.specs.Requests.{brought_in}
 use Rattle.up_hands.specs.Handed.{Handed, lives_of, births_in, AllLegal}
 use Rattle.up_hands.specs.Carried.{CarriedOut, IsProper, AsksForSome, is_done_here, object_of}
 use Rattle.up_steps.specs.Steps.{Setting}
-use Rattle.up_steps.specs.World.{Happening, happens, entries, said_by, rests}
-use Rattle.up_worker.specs.Acting.{Acting, under_way, next_wish, next_acting}
+use Rattle.up_steps.specs.World.{Happening, entries, said_by, rests}
+use Rattle.up_worker.specs.Acting.{Acting, next_wish, next_acting}
 use Rattle.up_worker.specs.Calls.{bringing}
 use Rattle.up_worker.specs.Lives.{Entered, Hears, Out, Carries}
 use Rattle.up_worker.specs.Wishes.{attempt, answers, wants_after}
-use Rattle.up_worker.specs.declared.course.Aim.{Aim}
 use Rattle.up_worker.specs.declared.wish.Heard.{Heard}
-use Rattle.up_worker.specs.declared.wish.Heard.TheVariants as heard
 use Rattle.up_worker.specs.declared.wish.Wish.{Wish}
 use Rattle.up_worker.specs.declared.wish.Wish.TheVariants as wishes
 use Rattle.up_stage.specs.Staged.{Staged, SameShape}
 use Rattle.std.specs.Prelude.{IfSome}
-use Rattle.up_stage.specs.Ready.{asked, ActorKeeps, Makes, Pending, Ready, rank_at, rank_in, rank}
-use Rattle.up_stage.specs.Worlds.{Stands, Goes, Follows, FollowsOn, OneMore}
-use Rattle.up_stage.proofs.Lives.{some_same, all_of, are_entered, slice_get-set}
+use Rattle.up_stage.specs.Ready.{asked, ActorKeeps, Makes, Pending, Ready, rank_at, rank}
+use Rattle.up_stage.specs.Worlds.{Stands, Goes, FollowsOn, OneMore}
+use Rattle.up_stage.proofs.Lives.{some_same, all_of, are_entered}
 use Rattle.up_stage.proofs.Pendings.{proper_call, proper_retry}
 use Rattle.up_stage.proofs.Readying.{Further, ready_more, AsksFew, acts_within}
 use Rattle.up_stage.proofs.Standing.{out_own, stands_heard, parking, goes_more, goes_rest}
-use Rattle.std.proofs.lemmas.Option.{slice_get_within}
 
 -- what is done so far
 pub record Following (old now : Staged) (who : ℕ) (first wish : Wish) : Type 0 where

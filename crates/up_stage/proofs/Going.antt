@@ -1,16 +1,13 @@
 -- One line more is done, and all lines.
-use Rattle.std.proofs.Common.{◌≡◌, ℕ, ◌+◌, ◌<◌, ◌≤◌, ◌==◌, ◌&&◌, ◌++◌, not, Bool, true, false, cond, Option, Some, None, List, [], ◌∷◌, zero, suc, length, take, reverse, refl, sym, ap, ◌∙◌, subst, slice_get, slice_set, slice_index, arith}
+use Rattle.std.proofs.Common.{◌≡◌, ℕ, ◌+◌, ◌<◌, ◌≤◌, ◌==◌, ◌&&◌, ◌++◌, not, Bool, true, false, cond, Some, List, [], ◌∷◌, zero, suc, length, take, reverse, refl, sym, ap, ◌∙◌, subst, slice_get, slice_set, slice_index, arith}
 use Rattle.std.specs.List.{list_all}
 use Rattle.std.proofs.lemmas.List.{length-set, append_assoc, length-append}
 use Rattle.std.proofs.lemmas.Option.{slice_get_within}
-use Rattle.up_model.proofs.Bools.{nat_eq-same, nat_eq_true, and_left, and_right, not_true, and_false}
-use Rattle.up_model.specs.declared.entry.Birth.{Birth}
-use Rattle.up_script.specs.Fit.{may_do}
-use Rattle.up_script.specs.declared.script.Action.{Action}
+use Rattle.up_model.proofs.Bools.{nat_eq-same, nat_eq_true, and_left, and_right, and_false}
 use Rattle.up_script.specs.declared.script.Line.{Line}
 use Rattle.up_steps.specs.Steps.{Setting}
-use Rattle.up_steps.specs.Told.{is_go, given_to, kind_at}
-use Rattle.up_steps.specs.World.{Happening, happens, events_of, actor_at, said_by, is_park, is_parked, rests, GoesOn, AllAnswers, Began, Woken, LineRan, Ran}
+use Rattle.up_steps.specs.Told.{is_go, given_to}
+use Rattle.up_steps.specs.World.{Happening, happens, events_of, actor_at, is_park, is_parked, GoesOn, Began, Woken, LineRan, Ran}
 use Rattle.up_worker.specs.Acting.{Acting}
 use Rattle.up_worker.specs.Lives.{Event, Begins, Hears, leads, lines as begun}
 use Rattle.up_worker.specs.declared.course.Doing.{Doing}
@@ -18,11 +15,10 @@ use Rattle.up_worker.specs.declared.course.Doing.TheVariants.{OneLine}
 use Rattle.up_worker.specs.declared.wish.Heard.TheVariants as heard
 use Rattle.up_stage.specs.Staged.{Staged, SameShape}
 use Rattle.up_stage.specs.Ready.{AtRest, is_waiting}
-use Rattle.up_stage.specs.Worlds.{StandsAtRest, Acts, ActsOn, ResumesOn, is_own}
-use Rattle.up_stage.specs.Lines.{HasBegun, Paced, CaughtTo, CaughtUp, CatchesUp, Did, Does, Gone, GoesThrough, is_own_line}
-use Rattle.up_stage.proofs.Lives.{get_some}
-use Rattle.up_stage.proofs.Resting.{goes_others, parked_is}
-use Rattle.up_stage.proofs.Lining.{lines_more, MoreGiven, given_more, answers_begun, goes_append, pace_more, pace_other, index_set, index_other}
+use Rattle.up_stage.specs.Worlds.{StandsAtRest, ActsOn, ResumesOn, is_own}
+use Rattle.up_stage.specs.Lines.{HasBegun, CatchesUp, Does, GoesThrough, is_own_line}
+use Rattle.up_stage.proofs.Resting.{parked_is}
+use Rattle.up_stage.proofs.Lining.{lines_more, given_more, answers_begun, goes_append, pace_more, pace_other, index_set, index_other}
 
 -- every actor has a place in the lines
 abbrev pub EachStands : Staged → Type 0

@@ -1,29 +1,24 @@
 -- How the lines of actors are gone through.
-use Rattle.std.proofs.Common.{◌≡◌, ℕ, ◌+◌, ◌-◌, ◌<◌, ◌≤◌, ◌==◌, ◌&&◌, ◌++◌, not, Bool, true, false, cond, Option, Some, None, List, [], ◌∷◌, zero, suc, length, take, drop, reverse, refl, sym, ap, ◌∙◌, subst, slice_get, slice_set, slice_index, arith}
+use Rattle.std.proofs.Common.{◌≡◌, ℕ, ◌+◌, ◌-◌, ◌<◌, ◌≤◌, ◌==◌, ◌&&◌, ◌++◌, not, Bool, true, false, cond, Option, Some, None, List, [], ◌∷◌, zero, suc, length, take, reverse, refl, sym, ap, ◌∙◌, subst, slice_get, slice_set, slice_index, arith}
 use Rattle.std.specs.Bool.{MatchBool}
-use Rattle.std.specs.List.{list_all}
-use Rattle.std.proofs.lemmas.List.{length-set, append_assoc, reverse-append, length-append}
+use Rattle.std.proofs.lemmas.List.{length-set, append_assoc, reverse-append}
 use Rattle.std.proofs.lemmas.Bool.Decides.{nat_tests}
-use Rattle.std.proofs.lemmas.Option.{slice_get_within}
 use Rattle.up_model.proofs.Bools.{nat_eq-same, nat_eq_true, and_left, and_right, not_true}
 use Rattle.up_model.specs.declared.entry.Birth.{Birth}
-use Rattle.up_script.specs.Fit.{may_do}
-use Rattle.up_script.specs.declared.script.Action.{Action}
 use Rattle.up_script.specs.declared.script.Line.{Line}
 use Rattle.up_steps.specs.Steps.{Setting}
-use Rattle.up_steps.specs.Told.{is_go, given_to, kind_at}
-use Rattle.up_steps.specs.World.{Happening, happens, events_of, out_of, said_by, is_park, is_parked, rests, is_answer, GoesOn, AllAnswers, Began, Woken, LineRan, Ran}
+use Rattle.up_steps.specs.Told.{is_go, given_to}
+use Rattle.up_steps.specs.World.{Happening, happens, events_of, is_parked, is_answer, GoesOn, AllAnswers}
 use Rattle.up_worker.specs.Acting.{Acting}
 use Rattle.up_worker.specs.Lives.{Event, Begins, Hears, lines as begun}
 use Rattle.up_worker.specs.declared.course.Doing.{Doing}
 use Rattle.up_worker.specs.declared.course.Doing.TheVariants.{OneLine}
-use Rattle.up_worker.specs.declared.wish.Heard.TheVariants as heard
 use Rattle.up_stage.specs.Staged.{Staged, SameShape}
 use Rattle.up_stage.specs.Ready.{AtRest, is_waiting}
-use Rattle.up_stage.specs.Worlds.{Stands, StandsAtRest, Acts, ActsOn, ResumesOn, Rested, PassesOn, is_own}
-use Rattle.up_stage.specs.Lines.{HasBegun, Paced, CaughtTo, CaughtUp, SameOthers, CatchingUp, CatchesUp, Did, Does, Gone, GoesThrough, is_own_line}
-use Rattle.up_stage.proofs.Lives.{some_same, slice_get-set, get_some}
-use Rattle.up_stage.proofs.Resting.{goes_others, parked_is}
+use Rattle.up_stage.specs.Worlds.{StandsAtRest, Acts, ActsOn, Rested, PassesOn, is_own}
+use Rattle.up_stage.specs.Lines.{HasBegun, CaughtTo, CaughtUp, CatchingUp, CatchesUp}
+use Rattle.up_stage.proofs.Lives.{some_same}
+use Rattle.up_stage.proofs.Resting.{parked_is}
 
 pub take_more : {X : Type 0} (xs : List X) (n : ℕ) (x : X) → slice_get xs n ≡ Some x → take (suc n) xs ≡ take n xs ++ x ∷ []
 take_more [] n x is = absurd cc

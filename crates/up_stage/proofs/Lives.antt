@@ -1,8 +1,8 @@
 -- Objects whose entries stand in one list: each one's journal, that all are legal, and that each list of objects has such a list of entries.
-use Rattle.std.proofs.Common.{◌≡◌, ℕ, ◌+◌, ◌<◌, ◌≤◌, ◌==◌, ◌++◌, Bool, true, false, cond, Option, Some, None, List, [], ◌∷◌, length, zero, suc, refl, sym, ap, ◌∙◌, subst, slice_get, slice_set, arith}
+use Rattle.std.proofs.Common.{◌≡◌, ℕ, ◌+◌, ◌<◌, ◌≤◌, ◌==◌, ◌++◌, Bool, true, false, cond, Some, List, [], ◌∷◌, length, zero, suc, refl, sym, ap, ◌∙◌, subst, slice_get, slice_set, arith}
 use Rattle.std.proofs.lemmas.Bool.Decides.{nat_tests}
-use Rattle.std.proofs.lemmas.List.{append-nil, append_assoc}
-use Rattle.up_model.proofs.Bools.{nat_eq-same, nat_eq_true}
+use Rattle.std.proofs.lemmas.List.{append-nil}
+use Rattle.up_model.proofs.Bools.{nat_eq-same}
 use Rattle.up_model.specs.Legal.{Life, Legal}
 use Rattle.up_model.specs.declared.entry.Birth.{Birth}
 use Rattle.up_model.specs.declared.entry.Entry.{Entry}

@@ -1,33 +1,28 @@
 -- What an actor wishes next keeps what its wish has to keep.
-use Rattle.std.proofs.Common.{◌≡◌, ℕ, ◌+◌, ◌-◌, ◌*◌, ◌<◌, ◌≤◌, ◌==◌, ◌&&◌, ◌⊎◌, Bool, true, false, cond, is_some, Option, Some, None, List, [], ◌∷◌, length, refl, sym, ap, ◌∙◌, subst, inl, inr, slice_get, nat_lt, arith}
+use Rattle.std.proofs.Common.{◌≡◌, ℕ, ◌*◌, ◌<◌, ◌==◌, ◌&&◌, ◌⊎◌, Bool, true, false, cond, Option, Some, None, List, length, refl, sym, ap, subst, inl, inr, nat_lt, arith}
 use Rattle.std.proofs.lemmas.Bool.Decides.{nat_tests}
-use Rattle.up_model.proofs.Bools.{and_left, and_right, nat_eq_true, nat_eq-same}
-use Rattle.up_model.specs.Reply.{proper, counts_frames, brings, frames_in, is_scan, is_by}
+use Rattle.up_model.proofs.Bools.{nat_eq_true, nat_eq-same}
+use Rattle.up_model.specs.Reply.{proper, counts_frames, brings}
 use Rattle.up_model.specs.Tickets.{owner, spent}
 use Rattle.up_model.specs.declared.entry.Brought.{Brought}
 use Rattle.up_model.specs.declared.entry.Brought.TheVariants.{Nothing, Frames, Scanned}
 use Rattle.up_model.specs.declared.entry.Call.{Call}
 use Rattle.up_model.specs.declared.entry.Call.TheVariants as calls
 use Rattle.up_model.specs.declared.entry.Entry.{Entry}
-use Rattle.up_model.specs.declared.entry.Reply.{Reply}
-use Rattle.up_model.specs.declared.entry.Reply.TheVariants as replies
 use Rattle.up_core.specs.Requests.{brought_in, takes_frames}
-use Rattle.up_hands.specs.Handed.{InHand, empty_hand}
+use Rattle.up_hands.specs.Handed.{empty_hand}
 use Rattle.up_hands.specs.Carried.{brings_as, hand_for}
 use Rattle.up_script.specs.declared.script.Action.{Action}
 use Rattle.up_script.specs.declared.script.Action.TheVariants as actions
-use Rattle.up_worker.specs.Acting.{Acting, under_way, hears, next_wish, next_acting}
-use Rattle.up_worker.specs.Calls.{bringing, bare, borrows, frames_before, calls_of, is_access}
-use Rattle.up_worker.specs.Wishes.{attempt, act_on, makes, last_of, last_wish, begins_call, settles, is_refused, ticket_after, wants_after}
+use Rattle.up_worker.specs.Acting.{Acting, under_way}
+use Rattle.up_worker.specs.Calls.{bringing, borrows, frames_before}
+use Rattle.up_worker.specs.Wishes.{attempt, act_on, makes, last_of, last_wish, begins_call}
 use Rattle.up_worker.specs.declared.course.Aim.{Aim}
 use Rattle.up_worker.specs.declared.course.Doing.{Doing}
 use Rattle.up_worker.specs.declared.course.Doing.TheVariants.{Idle, OneLine, Leaving}
-use Rattle.up_worker.specs.declared.wish.Heard.{Heard}
-use Rattle.up_worker.specs.declared.wish.Heard.TheVariants as heard
-use Rattle.up_worker.specs.declared.wish.Wish.{Wish}
 use Rattle.up_worker.specs.declared.wish.Wish.TheVariants as wishes
-use Rattle.up_stage.specs.Calls.{is_fit_call, IsFitAim, AreFitCalls, IsRightFor}
-use Rattle.up_stage.specs.Ready.{Makes, MakesResize, GathersFor, BorrowsFor, Parks, Pending}
+use Rattle.up_stage.specs.Calls.{is_fit_call, IsRightFor}
+use Rattle.up_stage.specs.Ready.{Pending}
 
 -- a call with other frames is of the same kind
 pub takes_bringing : (b : Brought) (call : Call) → takes_frames (bringing b call) ≡ takes_frames call

@@ -1,5 +1,5 @@
 -- What a script's objects and actors keep while one actor's wishes are carried out.
-use Rattle.std.proofs.Common.{◌≡◌, ℕ, ◌+◌, ◌<◌, ◌==◌, ◌++◌, ◌⊎◌, Bool, true, false, cond, Option, Some, None, List, [], ◌∷◌, length, refl, sym, ap, ◌∙◌, subst, inl, inr, slice_get, slice_set, nat_le, arith}
+use Rattle.std.proofs.Common.{◌≡◌, ℕ, ◌<◌, ◌==◌, ◌++◌, ◌⊎◌, Bool, true, false, cond, Option, Some, None, List, [], ◌∷◌, length, refl, sym, ap, ◌∙◌, subst, inl, inr, slice_get, slice_set, nat_le, arith}
 use Rattle.std.proofs.lemmas.List.{length-set}
 use Rattle.std.proofs.lemmas.Option.{slice_get_within}
 use Rattle.up_evictor.specs.declared.levels.Levels.{Levels}
@@ -14,13 +14,12 @@ use Rattle.up_model.specs.declared.entry.Call.{Call}
 use Rattle.up_model.specs.declared.entry.Call.TheVariants as calls
 use Rattle.up_model.specs.declared.entry.Reply.{Reply}
 use Rattle.up_model.specs.declared.entry.Reply.TheVariants as replies
-use Rattle.up_hands.specs.Handed.{Handed, lives_of, AllLegal, empty_hand}
-use Rattle.up_hands.specs.Carried.{CarriedOut, hand_for}
+use Rattle.up_hands.specs.Handed.{Handed, lives_of, AllLegal}
+use Rattle.up_hands.specs.Carried.{CarriedOut}
 use Rattle.up_steps.specs.Asked.{parks as parks_reply, may_park}
 use Rattle.up_steps.specs.World.{rests}
 use Rattle.up_worker.specs.Acting.{Acting, under_way, next_wish, next_acting}
 use Rattle.up_worker.specs.Calls.{bringing, borrows}
-use Rattle.up_worker.specs.Frames.{JudgedWish}
 use Rattle.up_worker.specs.Lives.{Entered, Carries, MakesOne, OwnEvicts, is_waiting, is_retry}
 use Rattle.up_worker.specs.Thread.{of_object, exact, DoneExactly}
 use Rattle.up_worker.specs.Wishes.{attempt}
@@ -29,13 +28,13 @@ use Rattle.up_worker.specs.declared.wish.Heard.{Heard}
 use Rattle.up_worker.specs.declared.wish.Heard.TheVariants as heard
 use Rattle.up_worker.specs.declared.wish.Wish.{Wish}
 use Rattle.up_worker.specs.declared.wish.Wish.TheVariants as wishes
-use Rattle.up_stage.specs.Calls.{is_fit_call, AreFitCalls}
+use Rattle.up_stage.specs.Calls.{is_fit_call}
 use Rattle.up_stage.specs.Staged.{Staged}
-use Rattle.up_stage.specs.Ready.{HoldsOn, Waits, HoldsIts, ActorKeeps, Keeps, Makes, Pending, Ready, Rests, rank}
-use Rattle.up_stage.proofs.Lives.{some_same, slice_get-set, get_some, found, life_at, legal_at, lives_count}
+use Rattle.up_stage.specs.Ready.{HoldsOn, Waits, HoldsIts, ActorKeeps, Makes, Pending, Ready, rank}
+use Rattle.up_stage.proofs.Lives.{some_same, slice_get-set, get_some, life_at, legal_at, lives_count}
 use Rattle.up_stage.proofs.Replying.{asks_right, parks_right}
-use Rattle.up_stage.proofs.Stepping.{After, Answered, after_act, after_site, after_gather, after_loan, after_done}
-use Rattle.up_stage.proofs.Tickets.{KeepsIt, AllKeepIt, held_one, held_many, held_blocked, evicts_keep, others_keep}
+use Rattle.up_stage.proofs.Stepping.{After, after_act, after_site, after_gather, after_loan, after_done}
+use Rattle.up_stage.proofs.Tickets.{AllKeepIt, held_one, held_many, held_blocked, evicts_keep, others_keep}
 
 -- an entry's reply is the one that is due
 pub due_reply : (births : List Birth) (x : Entered) (g : List Entered) → AllLegal (lives_of births (x ∷ g)) → (birth : Birth) → slice_get births x.object ≡ Some birth

@@ -1,5 +1,5 @@
 -- What a reply tells that asks for frames, and which calls park.
-use Rattle.std.proofs.Common.{◌≡◌, ℕ, ◌+◌, ◌<◌, ◌==◌, ◌&&◌, ◌||◌, ◌⊎◌, not, max, Bool, true, false, cond, Option, Some, None, List, length, map, refl, sym, ap, ◌∙◌, inl, inr, nat_le, nat_lt, slice_get, arith, rules}
+use Rattle.std.proofs.Common.{◌≡◌, ℕ, ◌<◌, ◌==◌, ◌&&◌, not, Bool, true, false, cond, Option, Some, None, List, length, map, refl, sym, ap, ◌∙◌, nat_lt, rules}
 use Rattle.std.proofs.lemmas.Bool.{ltb-true}
 use Rattle.up_num.specs.declared.answers.Outcome.{Outcome}
 use Rattle.up_num.specs.declared.answers.Outcome.TheVariants.{Freed}
@@ -10,7 +10,7 @@ use Rattle.up_num.specs.declared.answers.Refusal.TheVariants as refusal
 use Rattle.up_num.specs.declared.pages.PageNo.{PageNo}
 use Rattle.up_model.specs.Attempts.{Access, page_of, parked}
 use Rattle.up_model.specs.Pages.{page_number}
-use Rattle.up_model.specs.Size.{size, range_fits, access_fits}
+use Rattle.up_model.specs.Size.{size, access_fits}
 use Rattle.up_model.specs.Value.{there}
 use Rattle.up_model.specs.States.{dirty, unclean}
 use Rattle.up_model.specs.Pins.{loaned}
@@ -26,7 +26,7 @@ use Rattle.up_model.specs.declared.entry.Call.TheVariants as calls
 use Rattle.up_model.specs.declared.entry.Reply.{Reply}
 use Rattle.up_model.specs.declared.entry.Reply.TheVariants as answer
 use Rattle.up_model.specs.declared.entry.Reply.TheVariants.{Blocked, Waiting, Needs, Done, Refused}
-use Rattle.up_core.specs.Requests.{brought_in, takes_frames}
+use Rattle.up_core.specs.Requests.{brought_in}
 use Rattle.up_worker.specs.Calls.{borrows, frames_before}
 use Rattle.up_steps.specs.Asked.{parks, may_park}
 

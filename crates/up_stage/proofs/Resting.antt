@@ -1,8 +1,8 @@
 -- What begins with an actor that rests, and ends where it rests again.
-use Rattle.std.proofs.Common.{◌≡◌, ℕ, ◌+◌, ◌<◌, ◌==◌, ◌++◌, ◌⊎◌, Bool, true, false, cond, is_some, Option, Some, None, List, [], ◌∷◌, length, refl, sym, ap, ◌∙◌, subst, inl, inr, slice_get, slice_set, arith}
-use Rattle.std.proofs.lemmas.List.{length-set, append_assoc}
+use Rattle.std.proofs.Common.{◌≡◌, ℕ, ◌<◌, ◌==◌, ◌++◌, true, false, cond, Option, Some, None, List, [], ◌∷◌, length, refl, sym, ap, ◌∙◌, subst, inl, inr, slice_get, slice_set}
+use Rattle.std.proofs.lemmas.List.{length-set}
 use Rattle.std.proofs.lemmas.Option.{slice_get_within}
-use Rattle.up_model.proofs.Bools.{nat_eq-same, nat_eq_true, and_left, and_right}
+use Rattle.up_model.proofs.Bools.{nat_eq-same, nat_eq_true}
 use Rattle.up_model.specs.declared.entry.Birth.{Birth}
 use Rattle.up_model.specs.declared.entry.Brought.TheVariants.{Nothing}
 use Rattle.up_hands.specs.Handed.{Handed, empty_hand}
@@ -11,22 +11,20 @@ use Rattle.up_script.specs.Sound.{is_sound_action}
 use Rattle.up_script.specs.declared.script.Action.{Action}
 use Rattle.up_script.specs.declared.script.Line.{Line}
 use Rattle.up_steps.specs.Steps.{Setting}
-use Rattle.up_steps.specs.World.{Happening, happens, events_of, out_of, said_by, is_park, is_parked, rests, GoesOn, AllAnswers, Began}
+use Rattle.up_steps.specs.World.{Happening, happens, events_of, out_of, said_by, is_park, is_parked, rests, GoesOn}
 use Rattle.up_worker.specs.Acting.{Acting, under_way, next_wish, next_acting, first_wish, started}
 use Rattle.up_worker.specs.Lives.{Event, Begins, Hears, Out}
 use Rattle.up_worker.specs.Wishes.{makes, wants_after}
-use Rattle.up_worker.specs.declared.course.Aim.{Aim}
 use Rattle.up_worker.specs.declared.course.Doing.{Doing}
 use Rattle.up_worker.specs.declared.course.Doing.TheVariants.{OneLine}
 use Rattle.up_worker.specs.declared.wish.Heard.TheVariants as heard
-use Rattle.up_worker.specs.declared.wish.Wanted.{Wanted}
 use Rattle.up_worker.specs.declared.wish.Wanted.TheVariants as wanted
 use Rattle.up_worker.specs.declared.wish.Wish.{Wish}
 use Rattle.up_worker.specs.declared.wish.Wish.TheVariants as wishes
 use Rattle.up_stage.specs.Calls.{IsRightFor}
 use Rattle.up_stage.specs.Staged.{Staged}
 use Rattle.up_stage.specs.Ready.{ActorKeeps, Keeps, Parks, Pending, Rests, AtRest, Ready, is_done_wanted, waits_for_go, is_waiting}
-use Rattle.up_stage.specs.Worlds.{Stands, StandsAtRest, Follows, FollowsOn, Acts, ActsOn, Resumes, ResumesOn}
+use Rattle.up_stage.specs.Worlds.{Stands, StandsAtRest, FollowsOn, ActsOn, ResumesOn}
 use Rattle.up_stage.proofs.Fitting.{fit_calls}
 use Rattle.up_stage.proofs.Lives.{some_same, slice_get-set}
 use Rattle.up_stage.proofs.Pendings.{pending_makes, pending_begins}

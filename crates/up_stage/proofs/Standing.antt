@@ -1,5 +1,5 @@
 -- How happenings stand for the stage after one of them more.
-use Rattle.std.proofs.Common.{◌≡◌, ℕ, ◌+◌, ◌<◌, ◌==◌, ◌++◌, ◌⊎◌, Bool, true, false, cond, Some, None, List, [], ◌∷◌, length, sum, refl, sym, ap, ◌∙◌, subst, slice_get, slice_set, arith}
+use Rattle.std.proofs.Common.{◌≡◌, ℕ, ◌<◌, ◌==◌, ◌++◌, true, false, cond, Some, List, [], ◌∷◌, length, sum, refl, sym, ap, ◌∙◌, subst, slice_get, slice_set}
 use Rattle.std.proofs.lemmas.Option.{slice_get_within}
 use Rattle.up_model.proofs.Bools.{nat_eq-same, nat_eq_true}
 use Rattle.up_evictor.specs.declared.levels.Levels.{Levels}
@@ -10,13 +10,13 @@ use Rattle.up_hands.specs.Handed.{Handed, lives_of, home, loans, AllLegal}
 use Rattle.up_hands.specs.Carried.{CarriedOut, ages_after, kept_after}
 use Rattle.up_hands.specs.Carried as hands
 use Rattle.up_script.specs.declared.script.Kind.{Kind}
-use Rattle.up_steps.specs.Asked.{parks as parks_reply, may_park}
+use Rattle.up_steps.specs.Asked.{parks as parks_reply}
 use Rattle.up_model.specs.Reply.{reply}
 use Rattle.up_model.specs.declared.entry.Call.{Call}
 use Rattle.up_model.specs.declared.entry.Call.TheVariants as calls
 use Rattle.up_model.specs.declared.entry.Entry.{Entry}
 use Rattle.up_steps.specs.Steps.{Setting, Moment, AllAt}
-use Rattle.up_steps.specs.World.{Happening, happens, entries, out_of, said_by, moment_by, moment_in, OneThread, IsFair, AllFair, IsCarried, is_park, is_parked, rests, GoesOn, AllAnswers}
+use Rattle.up_steps.specs.World.{Happening, happens, entries, out_of, said_by, moment_by, moment_in, AllFair, is_park, rests}
 use Rattle.up_worker.specs.Acting.{Acting, unborn, next_acting, started}
 use Rattle.up_worker.specs.Lives.{Entered, Event, Begins, Hears, Out, leads, led, Carries, OwnEvicts, gives_pages, is_evict}
 use Rattle.up_worker.specs.Thread.{of_object, DoneExactly}
@@ -24,11 +24,10 @@ use Rattle.up_worker.specs.Wishes.{settles, wants_after}
 use Rattle.up_worker.specs.declared.course.Doing.{Doing}
 use Rattle.up_worker.specs.declared.wish.Heard.{Heard}
 use Rattle.up_worker.specs.declared.wish.Heard.TheVariants as heard
-use Rattle.up_worker.specs.declared.wish.Wanted.TheVariants as wanted
 use Rattle.up_worker.specs.declared.wish.Wish.{Wish}
 use Rattle.up_worker.specs.declared.wish.Wish.TheVariants as wishes
 use Rattle.up_stage.specs.Staged.{Staged}
-use Rattle.up_stage.specs.Worlds.{Stands, Goes, Follows, MoreBy, OneMore}
+use Rattle.up_stage.specs.Worlds.{Stands, Goes, Follows, OneMore}
 use Rattle.up_stage.proofs.Lives.{some_same, slice_get-set, get_some}
 use Rattle.up_stage.proofs.Readying.{due_reply}
 use Rattle.up_stage.proofs.Replying.{parks_right}

@@ -1,28 +1,24 @@
 -- What one wish that is carried out makes of its actor: what it wishes next, what is in hand for that, that less is left, and which ticket it holds.
-use Rattle.std.proofs.Common.{◌≡◌, ℕ, ◌+◌, ◌-◌, ◌*◌, ◌<◌, ◌≤◌, ◌==◌, ◌&&◌, ◌++◌, ◌⊎◌, Bool, true, false, cond, is_some, Option, Some, None, List, [], ◌∷◌, length, refl, sym, ap, ◌∙◌, subst, inl, inr, slice_get, nat_le, nat_lt, arith}
+use Rattle.std.proofs.Common.{◌≡◌, ℕ, ◌+◌, ◌-◌, ◌*◌, ◌<◌, ◌≤◌, ◌==◌, ◌&&◌, ◌⊎◌, Bool, true, false, cond, Option, Some, None, List, length, refl, sym, ap, ◌∙◌, subst, inl, inr, arith}
 use Rattle.std.proofs.lemmas.Bool.Decides.{nat_tests}
 use Rattle.std.proofs.lemmas.Option.{slice_get_within}
-use Rattle.up_model.specs.Legal.{Life, Legal}
-use Rattle.up_model.specs.Reply.{counts_frames, frames_in, is_scan, reply}
-use Rattle.up_model.specs.declared.entry.Birth.{Birth}
+use Rattle.up_model.specs.Legal.{Life}
+use Rattle.up_model.specs.Reply.{counts_frames, frames_in, is_scan}
 use Rattle.up_model.specs.declared.entry.Brought.{Brought}
 use Rattle.up_model.specs.declared.entry.Brought.TheVariants.{Nothing, Frames, Scanned}
 use Rattle.up_model.specs.declared.entry.Call.{Call}
 use Rattle.up_model.specs.declared.entry.Call.TheVariants as calls
-use Rattle.up_model.specs.declared.entry.Entry.{Entry}
 use Rattle.up_model.specs.declared.entry.Reply.{Reply}
 use Rattle.up_model.specs.declared.entry.Reply.TheVariants as replies
 use Rattle.up_core.specs.Requests.{brought_in, takes_frames}
-use Rattle.up_hands.specs.Handed.{InHand, empty_hand, lives_of, AllLegal}
+use Rattle.up_hands.specs.Handed.{empty_hand}
 use Rattle.up_hands.specs.Carried.{brings_as, hand_for, hand_after}
 use Rattle.up_claims.specs.declared.step.SiteReply.TheVariants as sites
 use Rattle.up_script.specs.declared.script.Action.{Action}
 use Rattle.up_script.specs.declared.script.Action.TheVariants as actions
-use Rattle.up_steps.specs.Asked.{parks as parks_reply, may_park}
 use Rattle.up_worker.specs.Acting.{Acting, under_way, next_wish, next_acting}
 use Rattle.up_worker.specs.Calls.{bringing, borrows, frames_before, calls_of, is_access}
-use Rattle.up_worker.specs.Lives.{Entered, MakesOne, is_retry}
-use Rattle.up_worker.specs.Thread.{of_object}
+use Rattle.up_worker.specs.Lives.{is_retry}
 use Rattle.up_worker.specs.Wishes.{attempt, act_on, makes, last_of, last_wish, begins_call, settles, is_refused, ticket_after}
 use Rattle.up_worker.specs.declared.course.Aim.{Aim}
 use Rattle.up_worker.specs.declared.course.Doing.{Doing}
@@ -31,12 +27,10 @@ use Rattle.up_worker.specs.declared.wish.Heard.{Heard}
 use Rattle.up_worker.specs.declared.wish.Heard.TheVariants as heard
 use Rattle.up_worker.specs.declared.wish.Wish.{Wish}
 use Rattle.up_worker.specs.declared.wish.Wish.TheVariants as wishes
-use Rattle.up_stage.specs.Calls.{is_fit_call, AreFitCalls, IsRightFor}
-use Rattle.up_stage.specs.Ready.{HoldsOn, Waits, HoldsIts, Makes, GathersFor, BorrowsFor, Parks, Pending, weight, rank_of, rank}
-use Rattle.up_stage.proofs.Lives.{some_same, found, life_at, legal_at}
-use Rattle.up_stage.proofs.Pendings.{takes_bringing, borrows_bringing, before_bringing, brought_bringing, pending_makes, pending_begins, pending_last, hand_bare, hand_acts}
-use Rattle.up_stage.proofs.Replying.{Asks, asks_right, parks_right}
-use Rattle.up_stage.proofs.Tickets.{held_one, held_blocked}
+use Rattle.up_stage.specs.Calls.{is_fit_call, IsRightFor}
+use Rattle.up_stage.specs.Ready.{HoldsIts, Makes, GathersFor, BorrowsFor, Pending, weight, rank_of, rank}
+use Rattle.up_stage.proofs.Pendings.{takes_bringing, borrows_bringing, before_bringing, pending_makes, pending_begins, hand_bare, hand_acts}
+use Rattle.up_stage.proofs.Replying.{Asks}
 
 -- of the actor after an answer
 pub record After (a : Acting) (wish : Wish) (answer : Heard) : Type 0 where

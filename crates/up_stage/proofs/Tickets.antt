@@ -1,10 +1,10 @@
 -- Who holds a ticket holds it on, but for a retry of its own that spends it.
 use Rattle.std.proofs.Common.{◌≡◌, ℕ, ◌<◌, ◌==◌, ◌&&◌, ◌||◌, ◌++◌, not, Bool, true, false, cond, Option, Some, None, List, [], ◌∷◌, refl, sym, ap, ◌∙◌, subst, slice_get, arith}
-use Rattle.up_model.proofs.Bools.{and_left, and_right, not_true, nat_eq_true, nat_eq-same, differ}
+use Rattle.up_model.proofs.Bools.{and_left, nat_eq_true, nat_eq-same, differ}
 use Rattle.up_model.proofs.Blocking.{blocked_entry}
 use Rattle.up_model.proofs.Holding.{owner_below, waits_holds}
 use Rattle.up_model.specs.Attempts.{blocks}
-use Rattle.up_model.specs.Legal.{Life, Legal}
+use Rattle.up_model.specs.Legal.{Legal}
 use Rattle.up_model.specs.Parked.{waits_under}
 use Rattle.up_model.specs.Reply.{proper, is_by}
 use Rattle.up_model.specs.Tickets.{next_ticket, owner, spent, retries, keeps_ticket}

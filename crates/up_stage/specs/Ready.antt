@@ -1,19 +1,18 @@
 -- What holds of a script's objects and actors while one of them wishes something, and while all rest.
-use Rattle.std.specs.Prelude.{◌≡◌, ℕ, ◌+◌, ◌-◌, ◌*◌, ◌<◌, ◌≤◌, ◌==◌, ◌⊎◌, Bool, true, false, cond, is_some, Option, Some, None, List, length, slice_get}
+use Rattle.std.specs.Prelude.{◌≡◌, ℕ, ◌+◌, ◌-◌, ◌*◌, ◌<◌, ◌==◌, ◌⊎◌, Bool, true, false, Option, Some, None, List, length, slice_get}
 use Rattle.up_model.specs.Legal.{Life}
 use Rattle.up_model.specs.Reply.{counts_frames}
 use Rattle.up_model.specs.Tickets.{owner, spent}
 use Rattle.up_model.specs.declared.entry.Brought.{Brought}
-use Rattle.up_model.specs.declared.entry.Brought.TheVariants.{Nothing, Frames, Scanned}
+use Rattle.up_model.specs.declared.entry.Brought.TheVariants.{Frames, Scanned}
 use Rattle.up_model.specs.declared.entry.Call.{Call}
-use Rattle.up_model.specs.declared.entry.Call.TheVariants as calls
 use Rattle.up_model.specs.declared.entry.Reply.{Reply}
 use Rattle.up_model.specs.declared.entry.Reply.TheVariants.{Needs}
 use Rattle.up_core.specs.Requests.{brought_in, takes_frames}
-use Rattle.up_hands.specs.Handed.{Handed, AllLegal, empty_hand}
+use Rattle.up_hands.specs.Handed.{AllLegal, empty_hand}
 use Rattle.up_hands.specs.Carried.{hand_for}
 use Rattle.up_worker.specs.Acting.{Acting, under_way}
-use Rattle.up_worker.specs.Calls.{bringing, borrows, frames_before, calls_of}
+use Rattle.up_worker.specs.Calls.{bringing, borrows, calls_of}
 use Rattle.up_worker.specs.Wishes.{attempt, wants_after}
 use Rattle.up_worker.specs.declared.course.Aim.{Aim}
 use Rattle.up_worker.specs.declared.wish.Heard.{Heard}

@@ -1,5 +1,5 @@
 -- What contracts see of a script's objects and actors in the middle of the script.
-use Rattle.std.specs.Prelude.{◌≡◌, ℕ, ◌+◌, Option, Some, None, List, [], ◌∷◌, length}
+use Rattle.std.specs.Prelude.{◌≡◌, ℕ, ◌+◌, List, [], ◌∷◌, length}
 use Rattle.up_hands.specs.Handed.{Handed}
 use Rattle.up_script.specs.declared.script.ActorLine.{ActorLine}
 use Rattle.up_worker.specs.Acting.{Acting, unborn}

@@ -1,5 +1,5 @@
 -- Which happenings stand for a script's objects and actors in the middle of the script, and how each step goes on with them.
-use Rattle.std.specs.Prelude.{◌≡◌, ℕ, ◌==◌, ◌&&◌, ◌++◌, not, Bool, true, false, Some, List, [], ◌∷◌, length, slice_get}
+use Rattle.std.specs.Prelude.{◌≡◌, ℕ, ◌==◌, ◌&&◌, ◌++◌, not, Bool, true, Some, List, [], ◌∷◌, length, slice_get}
 use Rattle.std.specs.Bool.{MatchBool}
 use Rattle.up_model.specs.declared.entry.Birth.{Birth}
 use Rattle.up_script.specs.declared.script.Line.{Line}

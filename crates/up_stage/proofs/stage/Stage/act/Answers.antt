@@ -1,9 +1,8 @@
-use Rattle.std.proofs.Common.{◌≡◌, ◌+◌, ◌<◌, ◌≤◌, ℕ, Bool, true, false, not, length, Some, None, refl, sym, ap, ◌∙◌, subst, arith, List, slice_get, slice_set, slice_index, length-set}
-use Rattle.std.proofs.lemmas.Option.{slice_get_read, slice_get_within}
+use Rattle.std.proofs.Common.{◌≡◌, true, false, length, refl, sym, ap, subst, slice_set, length-set}
+use Rattle.std.proofs.lemmas.Option.{slice_get_read}
 use Rattle.std.proofs.lemmas.Result.{IfOk-weaker}
-use Rattle.up_stage.specs.Staged.{Staged, SameShape}
-use Rattle.up_worker.specs.Acting.{Acting, first_wish, started}
-use Rattle.up_worker.specs.declared.course.Doing.TheVariants.{OneLine}
+use Rattle.up_stage.specs.Staged.{Staged}
+use Rattle.up_worker.specs.Acting.{Acting}
 use Rattle.up_worker.specs.declared.wish.Wish.{Wish}
 use Rattle.up_stage.specs.Played.{is_able_line}
 use Rattle.up_stage.specs.Ready.{AtRest, Ready, is_waiting}

@@ -1,6 +1,3 @@
-use Rattle.std.proofs.Common.{◌≡◌, ◌+◌, ◌<◌, ◌≤◌, ℕ, Bool, true, false, length, Some, None, refl, sym, ap, ◌∙◌, subst, arith, List, slice_get, slice_set, slice_index}
-use Rattle.std.proofs.lemmas.Option.{slice_get_read, slice_get_within}
-use Rattle.up_stage.specs.Staged.{Staged, SameShape}
 use Rattle.up_stage.proofs.Going.{gone_more}
 use Rattle.up_stage.proofs.stage.Stage.all_lines.Goals as goal
 

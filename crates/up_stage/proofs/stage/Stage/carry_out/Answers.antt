@@ -1,6 +1,6 @@
-use Rattle.std.proofs.Common.{◌≡◌, ◌+◌, ◌<◌, ◌≤◌, ℕ, Bool, true, false, length, Some, None, refl, sym, ap, ◌∙◌, subst, arith, List, slice_get, slice_set, slice_index}
+use Rattle.std.proofs.Common.{◌≡◌, ◌<◌, length, refl, sym, ap, ◌∙◌, subst, arith, slice_set}
 use Rattle.std.proofs.lemmas.Option.{slice_get_read, slice_get_within}
-use Rattle.up_stage.specs.Staged.{Staged, SameShape}
+use Rattle.up_stage.specs.Staged.{Staged}
 use Rattle.up_hands.specs.Carried.{object_of}
 use Rattle.up_worker.specs.Acting.{Acting, next_wish, next_acting}
 use Rattle.up_worker.specs.Wishes.{answers}

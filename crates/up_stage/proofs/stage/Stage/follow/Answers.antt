@@ -1,7 +1,5 @@
-use Rattle.std.proofs.Common.{◌≡◌, ◌+◌, ◌<◌, ◌≤◌, ℕ, Bool, true, false, length, Some, None, refl, sym, ap, ◌∙◌, subst, arith, List, slice_get, slice_set, slice_index}
-use Rattle.std.proofs.lemmas.Option.{slice_get_read, slice_get_within}
-use Rattle.up_stage.specs.Staged.{Staged, SameShape}
-use Rattle.up_stage.proofs.Following.{following_begin, following_more, follows_on}
+use Rattle.std.proofs.Common.{sym, ◌∙◌}
+use Rattle.up_stage.proofs.Following.{following_more, follows_on}
 use Rattle.up_stage.proofs.Resting.{at_rest}
 use Rattle.up_stage.proofs.stage.Stage.follow.Goals as goal
 

@@ -1,8 +1,6 @@
-use Rattle.std.proofs.Common.{◌≡◌, ◌+◌, ◌<◌, ◌≤◌, ℕ, Bool, true, false, not, length, Some, None, refl, sym, ap, ◌∙◌, subst, arith, List, slice_get, slice_set, slice_index, length-set}
-use Rattle.std.proofs.lemmas.Option.{slice_get_read, slice_get_within}
+use Rattle.std.proofs.Common.{◌≡◌, true, false, length, Some, refl, sym, ◌∙◌, slice_get}
+use Rattle.std.proofs.lemmas.Option.{slice_get_read}
 use Rattle.std.proofs.lemmas.Result.{IfOk-weaker}
-use Rattle.up_stage.specs.Staged.{Staged, SameShape}
-use Rattle.up_model.proofs.Bools.{not_true}
 use Rattle.up_stage.specs.Lines.{CatchesUp, Does}
 use Rattle.up_stage.proofs.Abling.{able_at, able_known}
 use Rattle.up_stage.proofs.Going.{did_nothing, did_act, did_resume}
@@ -18,7 +16,7 @@ returns-then-not-parked c =
     let within = able_known (length old.hands.lives) (length old.actors) line (able_at (length old.hands.lives) (length old.actors) lines c.args.at line c.requires.sound is) in
     let a = get_some old.actors line.actor within in
     let go = sym c.is_go.ensures ∙ c.if-is_go.true in
-    let free = sym c.is_parked-parked.ensures ∙ not_true _ c.if-not-parked.true in
+    let free = sym c.is_parked-parked.ensures ∙ c.if-not-parked.true in
     did_nothing lines c.args.at line old a.0 c.requires.rest is a.1 (λ _. free) (λ other. absurd (let q : true ≡ false = sym go ∙ other in cc))
 
 pub returns-then-is_go : goal.returns-then-is_go

@@ -1,7 +1,5 @@
-use Rattle.std.proofs.Common.{◌≡◌, ◌+◌, ◌<◌, ◌≤◌, ℕ, Bool, true, false, not, length, Some, None, refl, sym, ap, ◌∙◌, subst, arith, List, slice_get, slice_set, slice_index, length-set}
-use Rattle.std.proofs.lemmas.Option.{slice_get_read, slice_get_within}
-use Rattle.std.proofs.lemmas.Result.{IfOk-weaker}
-use Rattle.up_stage.specs.Staged.{Staged, SameShape}
+use Rattle.std.proofs.Common.{sym, subst, slice_set, length-set}
+use Rattle.up_stage.specs.Staged.{Staged}
 use Rattle.up_stage.specs.Ready.{AtRest}
 use Rattle.up_stage.proofs.Resting.{rest_done}
 use Rattle.up_stage.proofs.stage.Stage.pass.Goals as goal
