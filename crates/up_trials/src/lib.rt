@@ -7,8 +7,6 @@ mod judging;
 #[cfg(test)]
 mod outsides;
 #[cfg(test)]
-mod replays;
-#[cfg(test)]
 mod scripts;
 #[cfg(test)]
 mod words;
