@@ -6,8 +6,6 @@ mod event;
 pub mod laws;
 mod pages;
 mod sending;
-#[cfg(test)]
-mod tests;
 mod ticket;
 mod waiting;
 

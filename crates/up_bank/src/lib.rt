@@ -8,8 +8,6 @@ mod kind;
 pub mod laws;
 mod place;
 mod rule;
-#[cfg(test)]
-mod tests;
 mod view;
 
 pub use bank::{Bank, BankSeat, Scan};

@@ -11,5 +11,3 @@ pub use calls::{SpelledCall, fill_call, find_call, read_call};
 pub use kinds::CallKind;
 pub use put_calls::put_call;
 
-#[cfg(test)]
-mod tests;

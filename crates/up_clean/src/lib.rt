@@ -7,8 +7,6 @@ mod dirtying;
 mod ending;
 mod querying;
 mod reporting;
-#[cfg(test)]
-mod tests;
 
 pub use beginning::begin;
 pub use dirtying::dirty;

@@ -4,8 +4,6 @@
 mod clock;
 pub mod laws;
 mod rule;
-#[cfg(test)]
-mod tests;
 mod view;
 
 pub use clock::{Clock, ClockSeat};

@@ -4,8 +4,6 @@
 mod herd;
 mod levels;
 mod passes;
-#[cfg(test)]
-mod tests;
 
 pub use herd::{Cull, Herd};
 pub use levels::{Level, Levels};

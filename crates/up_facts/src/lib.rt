@@ -19,5 +19,3 @@ pub use roles::{detached, in_role};
 pub use sizes::{accepts, size};
 pub use uses::{age_class, cold_since, last_use, newest_epoch};
 
-#[cfg(test)]
-mod tests;

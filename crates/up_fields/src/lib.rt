@@ -19,5 +19,3 @@ pub use put::{
 };
 pub use tail::Tail;
 
-#[cfg(test)]
-mod tests;

@@ -6,7 +6,5 @@ mod hands;
 mod machine;
 mod pool;
 mod sole;
-#[cfg(test)]
-mod tests;
 
 pub use hands::Hands;

@@ -11,8 +11,6 @@ pub mod ordering;
 pub mod positions;
 pub mod standing;
 pub mod survival;
-#[cfg(test)]
-mod tests;
 
 pub use entry::{Birth, Brought, Call, Entries, Entry, HintKind, Reply, Role, Told};
 pub use log::Log;

@@ -6,8 +6,6 @@ mod answers;
 mod items;
 mod pages;
 mod pieces;
-#[cfg(test)]
-mod tests;
 
 pub use answers::{AskKind, Code, Outcome, Packet, PageState, Refusal};
 pub use items::{Bytes, Items, PageSeq, RangeSeq, Woken};

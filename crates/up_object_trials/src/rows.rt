@@ -6,7 +6,7 @@ use up_model::{Birth, Call, Reply};
 use up_object::{FramesIn, Stepped};
 
 // A list of requests in which an access waits, and is answered after a supply; both roles are left, and the third leave is refused.
-const FIRST_READ: &str = "pagerd-journal 1
+pub(crate) const FIRST_READ: &str = "pagerd-journal 1
 journal a 1 - free 1 1 -
 0 0 0 read 0 1 0 - -> blocked 0
 1 1 0 packet -> packet read 0 1
@@ -20,7 +20,7 @@ done
 ";
 
 // An end cleans no page that was written since its begin, so it isn't evicted.
-const WRITTEN_SINCE: &str = "pagerd-journal 1
+pub(crate) const WRITTEN_SINCE: &str = "pagerd-journal 1
 journal a 1 - free 2 1 -
 0 2 0 supply 0 1 61*4096 f1 -> took 1 woke -
 1 0 0 write 0 41*1 0 - -> done
@@ -34,7 +34,7 @@ done
 ";
 
 // Pages that growth made zeros: one is written, and an end empties the other.
-const GROWN: &str = "pagerd-journal 1
+pub(crate) const GROWN: &str = "pagerd-journal 1
 journal a 2 4 free 2 1 -
 0 0 0 resize 4 -> woke -
 1 2 0 query 0 4 8 -> ranges 1 2+2:z
@@ -49,7 +49,7 @@ done
 ";
 
 // A detach wakes all who wait, and what is dirty can still be written back.
-const DETACHED: &str = "pagerd-journal 1
+pub(crate) const DETACHED: &str = "pagerd-journal 1
 journal a 3 - trap 2 1 -
 0 2 0 supply 0 2 61*8192 f2 -> took 2 woke -
 1 2 0 dirty 0 1 - -> woke -
@@ -70,7 +70,7 @@ done
 ";
 
 // An end empties a page for which a write waits, so the retry waits for the page itself.
-const EMPTIED: &str = "pagerd-journal 1
+pub(crate) const EMPTIED: &str = "pagerd-journal 1
 journal a 1 2 trap 2 1 -
 0 2 0 supply 0 1 61*4096 f1 -> took 1 woke -
 1 0 0 zero 0 1 -> woke -
@@ -84,7 +84,7 @@ done
 ";
 
 // Pages go in the order of reclaiming: those called cold first, then by age, and one is never evicted.
-const RECLAIMED: &str = "pagerd-journal 1
+pub(crate) const RECLAIMED: &str = "pagerd-journal 1
 journal a 5 - free 2 1 -
 0 2 0 supply 0 5 61*20480 f5 -> took 5 woke -
 1 0 0 always 0 1 -> done
@@ -98,7 +98,7 @@ done
 ";
 
 // Loaned frames come under pages, are called back, and give way to a write.
-const LENT: &str = "pagerd-journal 1
+pub(crate) const LENT: &str = "pagerd-journal 1
 journal a 2 - free 2 1 -
 0 2 0 supply 0 2 61*8192 f2 -> took 2 woke -
 1 0 0 always 0 1 -> done
@@ -123,7 +123,7 @@ done
 ";
 
 // A page that awaits its end isn't evicted.
-const AWAITING: &str = "pagerd-journal 1
+pub(crate) const AWAITING: &str = "pagerd-journal 1
 journal a 1 - free 2 1 -
 0 2 0 supply 0 1 61*4096 f1 -> took 1 woke -
 1 0 0 write 0 41*1 0 - -> done
@@ -136,7 +136,7 @@ done
 ";
 
 // What a pager tells changes nothing, and a reset forgets that the object was changed.
-const TOLD: &str = "pagerd-journal 1
+pub(crate) const TOLD: &str = "pagerd-journal 1
 journal a 1 - free 1 1 image
 0 0 0 stats reset -> modified 0
 1 1 0 fetched 0 ok -> noted

@@ -6,8 +6,6 @@ pub mod laws;
 mod list;
 mod page;
 mod runs;
-#[cfg(test)]
-mod tests;
 
 pub use frames::Frames;
 pub use list::PageList;

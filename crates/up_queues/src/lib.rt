@@ -4,8 +4,6 @@
 pub mod laws;
 mod queued;
 mod queues;
-#[cfg(test)]
-mod tests;
 
 pub use queued::Queued;
 pub use queues::Queues;

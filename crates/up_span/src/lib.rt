@@ -8,8 +8,6 @@ mod runs;
 mod search;
 mod spans;
 mod stretch;
-#[cfg(test)]
-mod tests;
 
 pub use run::{KindRun, Run};
 pub use runs::Runs;

@@ -13,5 +13,3 @@ pub use journals::{Journals, Named};
 pub use reading::read_journals;
 pub use writing::write_journals;
 
-#[cfg(test)]
-mod tests;
