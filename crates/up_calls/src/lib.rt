@@ -10,4 +10,3 @@ mod put_calls;
 pub use calls::{SpelledCall, fill_call, find_call, read_call};
 pub use kinds::CallKind;
 pub use put_calls::put_call;
-

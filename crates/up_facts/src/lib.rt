@@ -18,4 +18,3 @@ pub use pinning::{always, loaned, pins};
 pub use roles::{detached, in_role};
 pub use sizes::{accepts, size};
 pub use uses::{age_class, cold_since, last_use, newest_epoch};
-

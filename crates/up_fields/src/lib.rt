@@ -18,4 +18,3 @@ pub use put::{
     put_range, put_ranges, put_with_flag, put_with_number, put_with_range, put_word,
 };
 pub use tail::Tail;
-

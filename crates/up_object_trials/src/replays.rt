@@ -450,14 +450,11 @@ fn other_than(alloc: Global, reply: &Reply) -> Reply {
 fn journal_of(rt: &impl Abort, alloc: Global, text: &str, number: usize) -> Option<Named> {
     let journals = read_journals(alloc, text.as_bytes()).ok();
     let mut all = journals.expect(rt, "journals").into_vec();
-    while number + 1 < all.len() {
+    all.reverse();
+    for _before in 0..number {
         let _ = all.pop();
     }
-    if number + 1 == all.len() {
-        all.pop()
-    } else {
-        None
-    }
+    all.pop()
 }
 
 fn are_same(one: &Verdict, other: &Verdict) -> bool {

@@ -9,4 +9,3 @@ mod replies;
 pub use kinds::ReplyKind;
 pub use put_replies::put_reply;
 pub use replies::{SpelledReply, fill_reply, find_reply, fits_list, read_reply};
-

@@ -12,4 +12,3 @@ mod writing;
 pub use journals::{Journals, Named};
 pub use reading::read_journals;
 pub use writing::write_journals;
-
