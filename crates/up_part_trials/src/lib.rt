@@ -20,3 +20,5 @@ mod paging;
 mod queueing;
 #[cfg(test)]
 mod spans;
+#[cfg(test)]
+mod turning;

@@ -8,8 +8,6 @@ mod pass;
 mod rule;
 pub mod sheet;
 mod steps;
-#[cfg(test)]
-mod tests;
 mod turn;
 mod view;
 

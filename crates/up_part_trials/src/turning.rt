@@ -3,8 +3,6 @@ ghost use Rattle.up_turn.specs.Placing.{has};
 ghost use Rattle.up_turn.specs.Standing.{first_pass};
 ghost use Rattle.up_turn.specs.Added.{Stays};
 
-use crate::sheet::{Sheet, add};
-use crate::{Pass, Turn};
 use std::alloc::Global;
 use std::sync::Wait;
 use std::test::Fail;
@@ -12,6 +10,8 @@ use std::thread;
 use std::thread::Threads;
 use up_model::{Call, Entry, Reply};
 use up_num::Memory;
+use up_turn::sheet::{Sheet, add};
+use up_turn::{Pass, Turn};
 
 // A turn over an empty sheet, and its first pass.
 fn begin(alloc: Global, actors: u32) -> Result<(Turn<Sheet>, Pass<Sheet>), Memory>
