@@ -6,8 +6,6 @@ mod order;
 mod packets;
 mod proper;
 mod ranges;
-#[cfg(test)]
-mod tests;
 mod tickets;
 
 ghost use Rattle.std.specs.Prelude.{◌≡◌, reverse, IfOk};

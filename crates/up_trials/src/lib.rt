@@ -9,6 +9,8 @@ mod facts;
 #[cfg(test)]
 mod fields;
 #[cfg(test)]
+mod looking;
+#[cfg(test)]
 mod outsides;
 #[cfg(test)]
 mod replies;

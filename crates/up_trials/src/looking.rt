@@ -1,5 +1,5 @@
-use crate::slow::{is_proper, reply_slow};
 use std::test::Fail;
+use up_journal::{is_proper, reply_slow};
 use up_model::{Birth, Brought, Call, Reply};
 use up_num::{PageNo, Piece};
 
