@@ -9,12 +9,14 @@ use Rattle.up_model.proofs.Equations.{value_none, marked_none, begun_none, settl
 
 -- before the first entry no page is there, and none was dirtied
 pub marks_none : (birth : Birth) (p : ℕ) (marks : Marks) →
-    marks ≡ record { first = None; marked = false; begun = false; settled = true } → AreMarks birth [] p marks
+    marks ≡ record { first = None; marked = false; begun = false; settled = true; since = 0; until = 0 } → AreMarks birth [] p marks
 marks_none birth p marks same = record {
   first_byte = ap (λ (m : Marks). m.first) same ∙ sym (value_none birth (4096 * p));
   still_zeros = ap (λ (m : Marks). m.marked) same ∙ sym (marked_none birth p);
   in_writeback = ap (λ (m : Marks). m.begun) same ∙ sym (begun_none birth p);
   written_back = ap (λ (m : Marks). m.settled) same ∙ sym (settled_none birth p);
+  dirtied_before = ap (λ (m : Marks). m.since) same;
+  zeros_until = ap (λ (m : Marks). m.until) same;
 }
 
 -- one byte more of those from offset `off` on

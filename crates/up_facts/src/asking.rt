@@ -11,7 +11,7 @@ ghost use Rattle.up_facts.specs.Seen.{access_in};
 
 use crate::attempts::attempt;
 use crate::deeds::covers;
-use crate::facts::{has_page, is_awaiting, is_dirty, is_plain};
+use crate::facts::{has_page, is_dirty, is_emptied};
 use crate::roles::detaches;
 use crate::sizes::{accepts, size};
 use std::marker::Model;
@@ -194,13 +194,11 @@ fn frees_readers(call: &Call, page: u64) -> bool
 fn lets_dirty(birth: &Birth, before: &[Entry], call: &Call, page: u64) -> bool
     requires { page < 2 ^ 52 }
     ensures { result ≡ (deeds.over_dirty call.now page
-        || deeds.over_end call.now page && (states.plain birth.now (reverse before.now) page && states.awaiting birth.now (reverse before.now) page)) }
+        || deeds.over_end call.now page && states.empty_at_end birth.now (reverse before.now) (deeds.named birth.now call.now) page) }
 {
     match call {
         Call::Dirty { range, .. } => covers(range, page),
-        Call::End { range } => {
-            covers(range, page) && is_plain(birth, before, page) && is_awaiting(birth, before, page)
-        }
+        Call::End { range, of } => covers(range, page) && is_emptied(birth, before, of, page),
         _ => false,
     }
 }

@@ -1,5 +1,6 @@
 ghost use Rattle.std.specs.Prelude.{◌≡◌, None, reverse};
 ghost use Rattle.up_model.specs.Attempts as attempts;
+ghost use Rattle.up_model.specs.Deeds as deeds;
 ghost use Rattle.up_model.specs.Parked as parkings;
 ghost use Rattle.up_facts.specs.Seen.{access_in};
 
@@ -11,6 +12,16 @@ pub fn blocks(reply: &Reply, ticket: u64) -> bool
 {
     match reply {
         Reply::Blocked(given) => *given == ticket,
+        _ => false,
+    }
+}
+
+/// The reply gave a begin this number.
+pub fn began_as(reply: &Reply, number: u64) -> bool
+    ensures { result ≡ deeds.began_as reply.now number }
+{
+    match reply {
+        Reply::Began(given) => *given == number,
         _ => false,
     }
 }

@@ -85,7 +85,7 @@ pub(crate) fn ends(entry: &Entry, page: u64) -> bool
     ensures { result ≡ deeds.ends entry.now page }
 {
     match &entry.call {
-        Call::End { range } => covers(range, page) && accepts(&entry.reply),
+        Call::End { range, .. } => covers(range, page) && accepts(&entry.reply),
         _ => false,
     }
 }

@@ -1,23 +1,26 @@
-ghost use Rattle.std.specs.Prelude.{◌≡◌, None, true, false, ◌+◌, ◌*◌, ◌/◌, ◌∷◌, ◌<◌, ◌^◌, reverse, IfOk};
+ghost use Rattle.std.specs.Prelude.{◌≡◌, None, true, false, ◌&&◌, ◌+◌, ◌*◌, ◌/◌, ◌∷◌, ◌<◌, ◌^◌, reverse, IfOk};
 ghost use Rattle.up_model.specs.Deeds as deeds;
 ghost use Rattle.up_model.specs.States as states;
 ghost use Rattle.up_model.specs.Value as values;
-ghost use Rattle.up_facts.specs.Seen.{access_in, AreMarks};
+ghost use Rattle.up_facts.specs.Seen.{access_in, AreMarks, counts_within};
+ghost use Rattle.up_facts.specs.Seen as seen;
 
-use crate::attempts::attempt;
+use crate::attempts::{attempt, began_as};
 use crate::deeds::{begins, blanks, dirties, drops, ends, pins_one, supplies, writes};
 use std::alloc::Global;
 use up_model::{Birth, Call, Entry};
 use up_num::{Bytes, Items, Memory};
 
-/// What decides the state of a page: its first byte, whether it is still zeros, and whether what it has is in
-/// writeback or written back.
+/// What decides the state of a page: its first byte, whether it is still zeros, whether what it has is in
+/// writeback or written back, and from which entry on begins count for it, and up to which those for zero pages.
 #[derive(Clone, Copy)]
 struct Marks {
     first: Option<u8>,
     marked: bool,
     begun: bool,
     settled: bool,
+    since: usize,
+    until: usize,
 }
 
 fn written(access: Option<&Call>, offset: u64) -> Option<u8>
@@ -74,12 +77,62 @@ fn for_zero(call: &Call) -> bool
     matches!(call, Call::Begin { zero: true, .. })
 }
 
+/// Whether the entry at this place is the begin of this number, and counts for the page.
+fn counts_as(entry: &Entry, number: u64, page: u64, place: usize, marks: &Marks) -> bool
+    ensures { result ≡ counts_within entry.now (deeds.ThisBegin number) page place marks.now.since marks.now.until }
+{
+    marks.since <= place
+        && (began_as(&entry.reply, number)
+            && (begins(entry, page) && (!for_zero(&entry.call) || place < marks.until)))
+}
+
+/// Whether the begin of this number counts for the page, and stands after what dirtied it last.
+fn begun_as(birth: &Birth, before: &[Entry], number: u64, page: u64, marks: &Marks) -> bool
+    requires { AreMarks birth.now (reverse before.now) page marks.now }
+    ensures { result ≡ values.begun_by birth.now (reverse before.now) (deeds.ThisBegin number) page }
+{
+    let mut found = false;
+    for place in 0..before.len() {
+        found = counts_as(&before[place], number, page, place, marks) || found;
+    }
+    found
+}
+
+/// Whether an end with this number is for a begin that counts for the page.
+#[tactic(auto, using(crate::proofs::Begins::none_named))]
+fn closed_by(birth: &Birth, before: &[Entry], of: &Option<u64>, page: u64, marks: &Marks) -> bool
+    requires { AreMarks birth.now (reverse before.now) page marks.now }
+    ensures { result ≡ values.begun_by birth.now (reverse before.now) (deeds.named_by birth.now.numbered of.now) page }
+{
+    if !birth.numbered {
+        return marks.begun;
+    }
+    match of {
+        Some(number) => begun_as(birth, before, *number, page, marks),
+        None => false,
+    }
+}
+
+/// Whether the entry, if it is an end, is for a begin that counts for the page.
+#[tactic(auto, using(crate::proofs::Begins::none_named))]
+fn closes(birth: &Birth, before: &[Entry], entry: &Entry, page: u64, marks: &Marks) -> bool
+    requires { AreMarks birth.now (reverse before.now) page marks.now }
+    ensures { result ≡ states.closes birth.now (reverse before.now) entry.now page }
+{
+    match &entry.call {
+        Call::End { of, .. } => closed_by(birth, before, of, page, marks),
+        _ => false,
+    }
+}
+
 fn empties(birth: &Birth, before: &[Entry], entry: &Entry, page: u64, marks: &Marks) -> bool
     requires { AreMarks birth.now (reverse before.now) page marks.now }
     ensures { result ≡ states.empties birth.now (reverse before.now) entry.now page }
 {
     let there = marks.first.is_some();
-    ends(entry, page) && ((there && marks.marked) && ((there && !marks.settled) && marks.begun))
+    ends(entry, page)
+        && ((there && marks.marked)
+            && ((there && !marks.settled) && closes(birth, before, entry, page, marks)))
 }
 
 #[tactic(auto, using(up_model::proofs::Equations::marked_is))]
@@ -120,7 +173,7 @@ fn settled_after(birth: &Birth, before: &[Entry], entry: &Entry, page: u64, mark
     if dirties(birth, before, entry, page) {
         false
     } else if ends(entry, page) {
-        marks.begun || marks.settled
+        closes(birth, before, entry, page, marks) || marks.settled
     } else {
         marks.settled
     }
@@ -143,6 +196,30 @@ fn byte_after(
     value_after(birth, before, entry, offset, emptied, old)
 }
 
+/// How many entries there are after the last that dirtied the page.
+fn since_after(birth: &Birth, before: &[Entry], entry: &Entry, page: u64, marks: &Marks) -> usize
+    requires { AreMarks birth.now (reverse before.now) page marks.now }
+    ensures { result ≡ seen.since birth.now (entry.now ∷ reverse before.now) page }
+{
+    if dirties(birth, before, entry, page) {
+        before.len() + 1
+    } else {
+        marks.since
+    }
+}
+
+/// How many entries there are after the last before which the page was a zero page.
+fn until_after(birth: &Birth, before: &[Entry], entry: &Entry, page: u64, marks: &Marks) -> usize
+    requires { AreMarks birth.now (reverse before.now) page marks.now }
+    ensures { result ≡ seen.until birth.now (entry.now ∷ reverse before.now) page }
+{
+    if marks.first.is_some() && marks.marked {
+        before.len() + 1
+    } else {
+        marks.until
+    }
+}
+
 fn marks_after(birth: &Birth, before: &[Entry], entry: &Entry, page: u64, marks: &Marks) -> Marks
     requires small { page < 2 ^ 52 }
     requires marks { AreMarks birth.now (reverse before.now) page marks.now }
@@ -153,17 +230,21 @@ fn marks_after(birth: &Birth, before: &[Entry], entry: &Entry, page: u64, marks:
         marked: marked_after(birth, before, entry, page, marks),
         begun: begun_after(birth, before, entry, page, marks),
         settled: settled_after(birth, before, entry, page, marks),
+        since: since_after(birth, before, entry, page, marks),
+        until: until_after(birth, before, entry, page, marks),
     }
 }
 
 fn no_marks() -> Marks
-    ensures { result ≡ record { first = None; marked = false; begun = false; settled = true } }
+    ensures { result ≡ record { first = None; marked = false; begun = false; settled = true; since = 0; until = 0 } }
 {
     Marks {
         first: None,
         marked: false,
         begun: false,
         settled: true,
+        since: 0,
+        until: 0,
     }
 }
 
@@ -235,13 +316,15 @@ pub fn is_unclean(birth: &Birth, before: &[Entry], page: u64) -> bool
     marks.first.is_some() && !marks.settled
 }
 
-/// Whether the page is unclean and in writeback.
-pub(crate) fn is_awaiting(birth: &Birth, before: &[Entry], page: u64) -> bool
+/// Whether an end with this number empties the page.
+pub(crate) fn is_emptied(birth: &Birth, before: &[Entry], of: &Option<u64>, page: u64) -> bool
     requires { page < 2 ^ 52 }
-    ensures { result ≡ states.awaiting birth.now (reverse before.now) page }
+    ensures { result ≡ states.empty_at_end birth.now (reverse before.now) (deeds.named_by birth.now.numbered of.now) page }
 {
     let marks = marks_of(birth, before, page);
-    (marks.first.is_some() && !marks.settled) && marks.begun
+    let there = marks.first.is_some();
+    (there && marks.marked)
+        && ((there && !marks.settled) && closed_by(birth, before, of, page, &marks))
 }
 
 /// Whether the page is unclean, and no writeback of it has begun.

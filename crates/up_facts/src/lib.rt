@@ -12,7 +12,7 @@ mod sizes;
 mod uses;
 
 pub use asking::{Ask, asked, is_blocked, is_waiting, resolved, resolves, wanted, wanted_by};
-pub use attempts::{attempt, blocks, parked};
+pub use attempts::{attempt, began_as, blocks, parked};
 pub use facts::{bytes_from, has_page, is_dirty, is_plain, is_settled, is_unclean};
 pub use pinning::{always, loaned, pins};
 pub use roles::{detached, in_role};

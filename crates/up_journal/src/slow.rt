@@ -2,6 +2,7 @@
 //! entries so far, oldest first.
 mod answers;
 mod modified;
+mod numbers;
 mod order;
 mod packets;
 mod proper;
@@ -12,7 +13,7 @@ ghost use Rattle.std.specs.Prelude.{◌≡◌, reverse, IfOk};
 ghost use Rattle.up_model.specs.Reply as replies;
 
 use crate::slow::answers::{
-    access, borrow, detach, dirty, done_within, end, evict, fail, leave, packet, pin, query,
+    access, begin, borrow, detach, dirty, done_within, end, evict, fail, leave, packet, pin, query,
     resize, retry, supply, unpin, vacate, zero,
 };
 use crate::slow::modified::modified;
@@ -40,7 +41,7 @@ pub fn reply_slow(
         Call::Supply { range, brought, .. } => supply(alloc, birth, before, call, range, brought),
         Call::Fail { range, .. } => fail(alloc, birth, before, call, range),
         Call::Dirty { range, brought } => dirty(alloc, birth, before, call, range, brought),
-        Call::End { range } => end(alloc, birth, before, call, range),
+        Call::End { range, of } => end(alloc, birth, before, call, range, of),
         Call::Query { range, room } => query(alloc, birth, before, range, *room),
         Call::Evict { limit, max } => evict(alloc, birth, before, epoch, *limit, *max),
         Call::Vacate { brought } => vacate(alloc, birth, before, brought),
@@ -49,7 +50,7 @@ pub fn reply_slow(
         Call::Detach => detach(alloc, birth, before, call),
         Call::Packet => packet(alloc, birth, before),
         Call::Leave { role } => leave(alloc, birth, before, call, *role),
-        Call::Begin { range, .. } => Ok(done_within(birth, before, range)),
+        Call::Begin { range, .. } => Ok(begin(birth, before, range)),
         Call::Hint { range, .. } => Ok(done_within(birth, before, range)),
         Call::Stats { .. } => Ok(Reply::Modified(modified(birth, before))),
         Call::Pin { range, brought } => Ok(pin(birth, before, range, brought)),

@@ -1,27 +1,27 @@
 -- What holds of pages that are asked for: those to be read are absent and within the object, those to be made dirty there and not dirty.
-use Rattle.std.proofs.Common.{◌≡◌, ℕ, ◌<◌, ◌==◌, ◌&&◌, ◌||◌, not, Bool, true, false, cond, List, [], ◌∷◌, refl, ap, sym, ◌∙◌, subst, arith, nat_le, nat_lt, inl, inr}
-use Rattle.std.proofs.lemmas.Bool.{or_cases, or_parts, and_parts, or_from}
+use Rattle.std.proofs.Common.{◌≡◌, ℕ, ◌<◌, ◌&&◌, ◌||◌, not, Bool, true, false, cond, List, [], ◌∷◌, refl, sym, ◌∙◌, subst, arith, inl, inr}
+use Rattle.std.proofs.lemmas.Bool.{or_cases, and_parts, or_from}
 use Rattle.std.proofs.lemmas.Bool.Decides.{nat_tests}
 use Rattle.up_num.specs.Span.{covers}
 use Rattle.up_num.specs.declared.answers.AskKind.{AskKind}
 use Rattle.up_num.specs.declared.answers.AskKind.TheVariants.{Read as ReadAsk, Dirty as DirtyAsk}
 use Rattle.up_num.specs.declared.answers.Outcome.{Outcome}
-use Rattle.up_num.specs.declared.answers.Outcome.TheVariants.{Waiting, Freed, Failed, Shrunk}
-use Rattle.up_model.specs.Attempts.{accepts, is_blocked}
-use Rattle.up_model.specs.Size.{size, asks_to_grow, asks_to_cut, cuts, grows}
-use Rattle.up_model.specs.Deeds.{writes, supplies, over_supply, over_dirty, over_end, over_zero, lets_dirty, ends, begins, zeroes, blanks, drops, evicts, dirties}
-use Rattle.up_model.specs.Value.{there, settled, begun, marked}
-use Rattle.up_model.specs.States.{plain, awaiting, dirty, empties}
+use Rattle.up_num.specs.declared.answers.Outcome.TheVariants.{Waiting, Freed, Shrunk}
+use Rattle.up_model.specs.Attempts.{accepts}
+use Rattle.up_model.specs.Size.{size, asks_to_grow, asks_to_cut, cuts}
+use Rattle.up_model.specs.Deeds.{named, writes, supplies, over_supply, over_dirty, over_end, over_zero, ends, begins, blanks, drops, evicts, dirties}
+use Rattle.up_model.specs.Value.{there, settled, begun}
+use Rattle.up_model.specs.States.{closes, dirty, empty_at_end, empties}
 use Rattle.up_model.specs.Asks.{asked, asks, wanted, resolves, resolved, is_waiting}
 use Rattle.up_model.specs.Legal.{Legal}
 use Rattle.up_model.specs.declared.entry.Birth.{Birth}
 use Rattle.up_model.specs.declared.entry.Entry.{Entry}
 use Rattle.up_model.specs.declared.entry.Call.{Call}
 use Rattle.up_model.specs.declared.entry.Call.TheVariants.{Supply, Dirty, End, Zero, Resize}
-use Rattle.up_model.proofs.Bools.{and_left, and_right, and_false, not_true}
+use Rattle.up_model.proofs.Bools.{not_true}
 use Rattle.up_model.proofs.Equations.{settled_is, begun_is}
-use Rattle.up_model.proofs.Steps.{Idle, idle_refused, idle_there, idle_settled, idle_begun, size_refused}
-use Rattle.up_model.proofs.Presence.{there_after, there_is, write_there, stays_within, pages_within}
+use Rattle.up_model.proofs.Steps.{idle_refused, idle_there, idle_settled, idle_begun, size_refused}
+use Rattle.up_model.proofs.Presence.{there_is, write_there, stays_within, pages_within}
 use Rattle.up_model.proofs.Reclaiming.{evicted_page}
 use Rattle.up_model.proofs.Blocked.{asks_now, blocked_refused, write_untrapped}
 
@@ -48,8 +48,8 @@ uncut birth h (Resize pages) ReadAsk p is = unresolved (asks_to_cut (Resize page
 uncut birth h (Resize pages) DirtyAsk p is = unresolved (asks_to_cut (Resize pages) (size birth h) p) Shrunk refl is
 uncut birth h _ k p is = refl
 
-unemptied : (birth : Birth) (h : List Entry) (call : Call) (p : ℕ) → is_waiting (resolves birth h call DirtyAsk p) ≡ true → (over_end call p && (plain birth h p && awaiting birth h p)) ≡ false
-unemptied birth h (End range) p is = unresolved (covers range p && (plain birth h p && awaiting birth h p)) Freed refl is
+unemptied : (birth : Birth) (h : List Entry) (call : Call) (p : ℕ) → is_waiting (resolves birth h call DirtyAsk p) ≡ true → (over_end call p && empty_at_end birth h (named birth call) p) ≡ false
+unemptied birth h (End range of) p is = unresolved (covers range p && empty_at_end birth h (named birth (End range of)) p) Freed refl is
 unemptied birth h _ p is = refl
 
 pub ungrown : (call : Call) (n p : ℕ) → p < n → asks_to_grow call n p ≡ false
@@ -133,15 +133,18 @@ is_undirty true false true is = refl
 is_undirty true false false is = absurd cc
 is_undirty false rest run is = refl
 
-still_undirty : (ended began counts rest run : Bool) → (rest || run) ≡ true → (cond ended (run || rest) rest || cond began (counts || run) run) ≡ true
-still_undirty true b c true true is = refl
-still_undirty true b c true false is = refl
-still_undirty false b c true run is = refl
-still_undirty true b c false true is = refl
-still_undirty false true true false true is = refl
-still_undirty false true false false true is = refl
-still_undirty false false c false true is = refl
-still_undirty e b c false false is = absurd cc
+still_undirty : (ended closing began counts rest run : Bool) → (rest || run) ≡ true → (cond ended (closing || rest) rest || cond began (counts || run) run) ≡ true
+still_undirty true true b c rest run is = refl
+still_undirty true false b c true run is = refl
+still_undirty false d b c true run is = refl
+still_undirty true false true true false true is = refl
+still_undirty true false true false false true is = refl
+still_undirty true false false c false true is = refl
+still_undirty false d true true false true is = refl
+still_undirty false d true false false true is = refl
+still_undirty false d false c false true is = refl
+still_undirty true false b c false false is = absurd cc
+still_undirty false d b c false false is = absurd cc
 
 untrapped : (traps is_dirty : Bool) → traps ≡ true → is_dirty ≡ false → (traps && not is_dirty) ≡ false → ⊥
 untrapped true false traps undirty kept = cc
@@ -172,7 +175,7 @@ dirty_accepted birth e before legal p accepted still asked_now was =
     let clear : dirties birth before e p ≡ false = or_from _ _ (trapped birth e before legal p was) (or_from _ _ (rw (unleft birth before e.call p still) refl) unblanked) in record {
       here = there_is birth e before legal p ∙ all_here (writes before e p) (supplies e p) (blanks birth before e p) (drops birth before e p || empties birth before e p) (there birth before p)
           (or_from _ _ (or_from _ _ (unevicted birth e before legal p asked_now) stays) full) was.here;
-      undirty = rw (settled_is birth e before p, begun_is birth e before p, clear) (still_undirty (ends e p) (begins e p) _ (settled birth before p) (begun birth before p) was.undirty);
+      undirty = rw (settled_is birth e before p, begun_is birth e before p, clear) (still_undirty (ends e p) (closes birth before e p) (begins e p) _ (settled birth before p) (begun birth before p) was.undirty);
       traps = was.traps;
     }
   where

@@ -1,5 +1,5 @@
 -- Why an access parks, and what it asks for.
-use Rattle.std.proofs.Common.{◌≡◌, ℕ, ◌+◌, ◌-◌, ◌<◌, ◌≤◌, ◌==◌, ◌&&◌, ◌||◌, not, Bool, true, false, cond, Option, Some, None, is_some, option_map, List, ◌∷◌, length, zero, suc, refl, ap, sym, ◌∙◌, subst, arith, nat_le, nat_lt, inl, inr, min}
+use Rattle.std.proofs.Common.{◌≡◌, ℕ, ◌+◌, ◌-◌, ◌<◌, ◌≤◌, ◌&&◌, ◌||◌, not, Bool, true, false, cond, Option, Some, None, is_some, option_map, List, ◌∷◌, length, zero, suc, refl, ap, ◌∙◌, subst, arith, nat_le, nat_lt, inl, inr, min}
 use Rattle.std.proofs.lemmas.Bool.{cases_eq, and_parts}
 use Rattle.std.proofs.lemmas.Bool.Decides.{nat_tests}
 use Rattle.up_num.specs.declared.answers.AskKind.{AskKind}
@@ -15,7 +15,7 @@ use Rattle.up_model.specs.States.{plain, dirty}
 use Rattle.up_model.specs.Pins.{loaned}
 use Rattle.up_model.specs.Roles.{detached}
 use Rattle.up_model.specs.Pages.{run_of}
-use Rattle.up_model.specs.Asks.{Ask, same_kind, lacks, kind_of, want, wanted, asks}
+use Rattle.up_model.specs.Asks.{same_kind, lacks, kind_of, want, wanted, asks}
 use Rattle.up_model.specs.Tickets.{next_ticket, outcome}
 use Rattle.up_model.specs.Reply.{reply, refuse_where, access_reply, touch_reply, must_wait, retry_reply, with_frames, one_where}
 use Rattle.up_model.specs.Legal.{Legal}
@@ -26,9 +26,9 @@ use Rattle.up_model.specs.declared.entry.Call.{Call}
 use Rattle.up_model.specs.declared.entry.Call.TheVariants.{Read, Write, Retry}
 use Rattle.up_model.specs.declared.entry.Reply.{Reply}
 use Rattle.up_model.specs.declared.entry.Reply.TheVariants.{Done, Blocked}
-use Rattle.up_model.proofs.Bools.{and_left, and_right, not_true, nat_eq_true}
+use Rattle.up_model.proofs.Bools.{and_left, and_right, nat_eq_true}
 use Rattle.up_model.proofs.Passed.{Past, past_where, past_frames}
-use Rattle.up_model.proofs.Blocking.{is_access, never_parks}
+use Rattle.up_model.proofs.Blocking.{never_parks}
 
 pub past_blocked : Past is_blocked
 past_blocked = record { refused = λ why. refl; needs = λ count. refl }

@@ -101,11 +101,11 @@ resolves-dirty_of_a_read : resolves (trapping 1) (first_of asked_before_dirty 3)
 unfolding value
 resolves-dirty_of_a_read = refl
 
-resolves-emptying_end : resolves (born 1 (Some 2) true) (first_of emptied_under_a_write 4) (calls.End (range 0 1)) DirtyAsk 0 ≡ Freed
+resolves-emptying_end : resolves (born 1 (Some 2) true) (first_of emptied_under_a_write 4) (calls.End (range 0 1) None) DirtyAsk 0 ≡ Freed
 unfolding value
 resolves-emptying_end = refl
 
-resolves-end : resolves (trapping 1) (first_of asked_before_dirty 3) (calls.End (range 0 1)) DirtyAsk 0 ≡ NothingYet
+resolves-end : resolves (trapping 1) (first_of asked_before_dirty 3) (calls.End (range 0 1) None) DirtyAsk 0 ≡ NothingYet
 unfolding value
 resolves-end = refl
 

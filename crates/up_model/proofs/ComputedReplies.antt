@@ -1,5 +1,5 @@
 -- Which calls are proper, and what each call answers, with each of its refusals, computed at small journals.
-use Rattle.std.specs.Prelude.{◌≡◌, ℕ, true, false, Some, List, [], ◌∷◌, ◌++◌, replicate, refl}
+use Rattle.std.specs.Prelude.{◌≡◌, ℕ, true, false, Some, None, List, [], ◌∷◌, ◌++◌, replicate, refl}
 use Rattle.std.proofs.Common.{arith}
 use Rattle.up_num.specs.declared.answers.Code.TheVariants.{Io}
 use Rattle.up_num.specs.declared.answers.Packet.TheVariants.{Read as ReadPacket, Dirty as DirtyPacket, Complete}
@@ -21,60 +21,60 @@ use Rattle.up_model.specs.declared.entry.Call.TheVariants as calls
 use Rattle.up_model.specs.declared.entry.Reply.TheVariants as answer
 
 -- an access has some bytes, all in one page, and ends in that page or a later one
-proper-read : proper [] 0 (read_at 4094 2 0) ≡ true
+proper-read : proper (free 1) [] 0 (read_at 4094 2 0) ≡ true
 proper-read = refl
 
-proper-no_bytes : proper [] 0 (read_at 0 0 0) ≡ false
+proper-no_bytes : proper (free 1) [] 0 (read_at 0 0 0) ≡ false
 proper-no_bytes = refl
 
-proper-two_pages : proper [] 0 (read_at 4095 2 1) ≡ false
+proper-two_pages : proper (free 1) [] 0 (read_at 4095 2 1) ≡ false
 proper-two_pages = refl
 
-proper-ends_before : proper [] 0 (read_at 4096 1 0) ≡ false
+proper-ends_before : proper (free 1) [] 0 (read_at 4096 1 0) ≡ false
 proper-ends_before = refl
 
-proper-write : proper [] 0 (write_at 4095 65 0 Nothing) ≡ true
+proper-write : proper (free 1) [] 0 (write_at 4095 65 0 Nothing) ≡ true
 proper-write = refl
 
-proper-write_of_nothing : proper [] 0 (calls.Write 0 [] (page 0) Nothing) ≡ false
+proper-write_of_nothing : proper (free 1) [] 0 (calls.Write 0 [] (page 0) Nothing) ≡ false
 proper-write_of_nothing = refl
 
-proper-no_frame_brought : proper [] 0 (write_at 0 65 0 (Frames 0)) ≡ false
+proper-no_frame_brought : proper (free 1) [] 0 (write_at 0 65 0 (Frames 0)) ≡ false
 proper-no_frame_brought = refl
 
 -- a retry names an unspent ticket of its own
-proper-retry : proper (first_of asked_and_supplied 3) 0 (calls.Retry 0 Nothing) ≡ true
+proper-retry : proper (free 1) (first_of asked_and_supplied 3) 0 (calls.Retry 0 Nothing) ≡ true
 proper-retry = refl
 
-proper-ticket_of_another : proper (first_of asked_and_supplied 3) 1 (calls.Retry 0 Nothing) ≡ false
+proper-ticket_of_another : proper (free 1) (first_of asked_and_supplied 3) 1 (calls.Retry 0 Nothing) ≡ false
 proper-ticket_of_another = refl
 
-proper-ticket_of_nobody : proper (first_of asked_and_supplied 3) 0 (calls.Retry 5 Nothing) ≡ false
+proper-ticket_of_nobody : proper (free 1) (first_of asked_and_supplied 3) 0 (calls.Retry 5 Nothing) ≡ false
 proper-ticket_of_nobody = refl
 
-proper-spent_ticket : proper asked_and_supplied 0 (calls.Retry 0 Nothing) ≡ false
+proper-spent_ticket : proper (free 1) asked_and_supplied 0 (calls.Retry 0 Nothing) ≡ false
 proper-spent_ticket = refl
 
 -- a supply has all bytes, and a frame for each page or a scan
-proper-supply : proper [] 2 (supply 0 1 97) ≡ true
+proper-supply : proper (free 1) [] 2 (supply 0 1 97) ≡ true
 proper-supply = refl
 
-proper-supply_with_scan : proper [] 2 (calls.Supply (range 0 1) (replicate 4096 97) Scanned) ≡ true
+proper-supply_with_scan : proper (free 1) [] 2 (calls.Supply (range 0 1) (replicate 4096 97) Scanned) ≡ true
 proper-supply_with_scan = refl
 
-proper-supply_too_short : proper [] 2 (calls.Supply (range 0 1) (97 ∷ []) (Frames 1)) ≡ false
+proper-supply_too_short : proper (free 1) [] 2 (calls.Supply (range 0 1) (97 ∷ []) (Frames 1)) ≡ false
 proper-supply_too_short = refl
 
-proper-supply_without_frames : proper [] 2 (calls.Supply (range 0 1) (replicate 4096 97) Nothing) ≡ false
+proper-supply_without_frames : proper (free 1) [] 2 (calls.Supply (range 0 1) (replicate 4096 97) Nothing) ≡ false
 proper-supply_without_frames = refl
 
-proper-supply_with_too_many : proper [] 2 (calls.Supply (range 0 1) (replicate 4096 97) (Frames 2)) ≡ false
+proper-supply_with_too_many : proper (free 1) [] 2 (calls.Supply (range 0 1) (replicate 4096 97) (Frames 2)) ≡ false
 proper-supply_with_too_many = refl
 
-proper-pin_with_no_frame : proper [] 0 (calls.Pin (range 0 1) (Frames 0)) ≡ false
+proper-pin_with_no_frame : proper (free 1) [] 0 (calls.Pin (range 0 1) (Frames 0)) ≡ false
 proper-pin_with_no_frame = refl
 
-proper-packet : proper [] 2 calls.Packet ≡ true
+proper-packet : proper (free 1) [] 2 calls.Packet ≡ true
 proper-packet = refl
 
 -- Read
@@ -328,15 +328,15 @@ begin-detached : reply (trapping 3) detached_with_both_asks 2 0 (calls.Begin (ra
 unfolding value
 begin-detached = refl
 
-end-woke : reply (born 1 (Some 2) true) (first_of emptied_under_a_write 4) 2 0 (calls.End (range 0 1)) ≡ answer.Woke (0 ∷ [])
+end-woke : reply (born 1 (Some 2) true) (first_of emptied_under_a_write 4) 2 0 (calls.End (range 0 1) None) ≡ answer.Woke (0 ∷ [])
 unfolding value
 end-woke = refl
 
-end-nobody : reply (free 1) (first_of written_since_its_begin 4) 2 0 (calls.End (range 0 1)) ≡ answer.Woke []
+end-nobody : reply (free 1) (first_of written_since_its_begin 4) 2 0 (calls.End (range 0 1) None) ≡ answer.Woke []
 unfolding value
 end-nobody = refl
 
-end-range : reply (free 1) [] 2 0 (calls.End (range 1 1)) ≡ answer.Refused refusal.Range
+end-range : reply (free 1) [] 2 0 (calls.End (range 1 1) None) ≡ answer.Refused refusal.Range
 unfolding value
 end-range = refl
 

@@ -277,7 +277,7 @@ settled-at_last : settled (free 1) (first_of written_back_at_last 6) 0 ≡ true
 unfolding value
 settled-at_last = refl
 
-settled-without_begin : settled (free 1) (by 2 0 (calls.End (range 0 1)) (answer.Woke []) ∷ first_of written_since_its_begin 2) 0 ≡ false
+settled-without_begin : settled (free 1) (by 2 0 (calls.End (range 0 1) None) (answer.Woke []) ∷ first_of written_since_its_begin 2) 0 ≡ false
 unfolding value
 settled-without_begin = refl
 
@@ -360,7 +360,7 @@ empties-supplied_page : at cleaned_and_evicted 3 (λ before e. empties (free 1) 
 unfolding value
 empties-supplied_page = refl
 
-empties-not_begun : empties (free 3) zeroed_and_listed (by 2 0 (calls.End (range 2 1)) (answer.Woke [])) 2 ≡ false
+empties-not_begun : empties (free 3) zeroed_and_listed (by 2 0 (calls.End (range 2 1) None) (answer.Woke [])) 2 ≡ false
 unfolding value
 empties-not_begun = refl
 

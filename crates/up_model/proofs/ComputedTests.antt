@@ -1,6 +1,6 @@
 -- The tests of an entry, computed for each kind of call: of all these entries, which all speak of page 0 and were accepted, the
 -- tests hold of exactly the ones that are listed, and of none that was refused, needs frames, is blocked or waits.
-use Rattle.std.specs.Prelude.{◌≡◌, not, true, false, Some, List, [], ◌∷◌, map, refl, ◌++◌}
+use Rattle.std.specs.Prelude.{◌≡◌, not, true, false, Some, None, List, [], ◌∷◌, map, refl, ◌++◌}
 use Rattle.std.specs.List.{filter}
 use Rattle.up_num.specs.declared.answers.AskKind.TheVariants.{Read as ReadAsk, Dirty as DirtyAsk}
 use Rattle.up_num.specs.declared.answers.Code.TheVariants.{Io}
@@ -75,7 +75,7 @@ abbrev a_zero_begin : Entry
 a_zero_begin = by 2 0 (calls.Begin (range 0 1) true) answer.Done
 
 abbrev an_end : Entry
-an_end = by 2 0 (calls.End (range 0 1)) (answer.Woke [])
+an_end = by 2 0 (calls.End (range 0 1) None) (answer.Woke [])
 
 abbrev a_query : Entry
 a_query = by 2 0 (calls.Query (range 0 1) 4) (answer.Ranges 0 [])

@@ -6,7 +6,7 @@ use Rattle.up_model.specs.Attempts.{page_of, accepts, attempt}
 use Rattle.up_model.specs.Deeds.{writes, blanks, evicts, written}
 use Rattle.up_model.specs.Size.{asks_to_grow, asks_to_cut, size}
 use Rattle.up_model.specs.Value.{value, marked, begun, settled, there, or_else}
-use Rattle.up_model.specs.States.{plain, empties}
+use Rattle.up_model.specs.States.{plain, closing, empties}
 use Rattle.up_model.specs.declared.entry.Birth.{Birth}
 use Rattle.up_model.specs.declared.entry.Brought.{Brought}
 use Rattle.up_model.specs.declared.entry.Entry.{Entry}
@@ -33,15 +33,15 @@ after_begin birth e h range only_zero p c a o = record {
   settle = rw (settled_is, c) refl;
 }
 
--- An end over p: an awaiting page is settled, and goes where it is plain.
+-- An end over p: where it is for a begin that counts, the page is settled, and goes where it was plain and unclean.
 some_unless : (b : Bool) (v : Option ℕ) → is_some (cond b None v) ≡ (not b && is_some v)
 some_unless true v = refl
 some_unless false v = refl
 
-pub after_end : (birth : Birth) (e : Entry) (h : List Entry) (range : Span) (p : ℕ) →
-    e.call ≡ calls.End range → accepts e.reply ≡ true → covers range p ≡ true →
-    PageIs birth (e ∷ h) p (not (empties birth h e p) && there birth h p) (marked birth h p) (begun birth h p) (begun birth h p || settled birth h p)
-after_end birth e h range p c a o = record {
+pub after_end : (birth : Birth) (e : Entry) (h : List Entry) (range : Span) (of : Option ℕ) (p : ℕ) →
+    e.call ≡ calls.End range of → accepts e.reply ≡ true → covers range p ≡ true →
+    PageIs birth (e ∷ h) p (not (empties birth h e p) && there birth h p) (marked birth h p) (begun birth h p) (closing birth h range of p || settled birth h p)
+after_end birth e h range of p c a o = record {
   here = rw (value_is, page_start p, c, a, o) (some_unless _ _);
   mark = rw (marked_is, c) refl;
   begin = rw (begun_is, c) refl;
@@ -148,9 +148,3 @@ after_write birth e h p w b t = record {
 pub value_write : (birth : Birth) (e : Entry) (h : List Entry) (x : ℕ) → writes h e (page_of x) ≡ true →
     value birth (e ∷ h) x ≡ or_else (written (attempt h e) x) (value birth h x)
 value_write birth e h x w = rw (value_is, w) refl
-
--- A dirty page is one that no begin counts for since, so an end leaves it dirty: whoever writes after a begin stays dirty over its end.
-pub stays_dirty : (birth : Birth) (e : Entry) (h : List Entry) (range : Span) (p : ℕ) →
-    e.call ≡ calls.End range → accepts e.reply ≡ true → covers range p ≡ true → begun birth h p ≡ false → settled birth h p ≡ false →
-    settled birth (e ∷ h) p ≡ false
-stays_dirty birth e h range p c a o b s = rw (settled_is, c, a, o, b, s) refl

@@ -1,6 +1,6 @@
 -- How the parts of a page's state go together, as the laws say it.
-use Rattle.std.proofs.Common.{◌≡◌, ℕ, ◌&&◌, Bool, true, false, List, refl}
-use Rattle.up_model.specs.Value.{there, settled}
+use Rattle.std.proofs.Common.{◌≡◌, ℕ, true, false, List, refl}
+use Rattle.up_model.specs.Value.{there}
 use Rattle.up_model.specs.States.{plain, clean}
 use Rattle.up_model.specs.Pins.{pins, loaned}
 use Rattle.up_model.specs.Legal.{Legal}

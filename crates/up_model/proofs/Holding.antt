@@ -43,14 +43,14 @@ pub record HoldsTicket (h : List Entry) (who t : ℕ) : Type 0 where
   pub unspent : spent h t ≡ false
 
 -- a proper retry is of a ticket that its actor holds
-retries_held : (h : List Entry) (who : ℕ) (call : Call) (t : ℕ) → proper h who call ≡ true → retries call t ≡ true → HoldsTicket h who t
-retries_held h who (Retry ticket brought) t p r =
+retries_held : (birth : Birth) (h : List Entry) (who : ℕ) (call : Call) (t : ℕ) → proper birth h who call ≡ true → retries call t ≡ true → HoldsTicket h who t
+retries_held birth h who (Retry ticket brought) t p r =
     let same : ticket ≡ t = nat_eq_true ticket t r in
     subst (λ (n : ℕ). HoldsTicket h who n) same (record {
       holder = is_by_some (owner h ticket) who (and_left _ _ p);
       unspent = not_true (spent h ticket) (and_left _ _ (and_right (is_by (owner h ticket) who) _ p));
     })
-retries_held h who _ t p r = absurd cc
+retries_held birth h who _ t p r = absurd cc
 
 -- a ticket that is spent was given
 spent_below : (birth : Birth) (h : List Entry) → Legal birth h → (t : ℕ) → spent h t ≡ true → t < next_ticket h
@@ -58,7 +58,7 @@ spent_below birth [] legal t is = absurd cc
 spent_below birth (e ∷ before) legal t is =
     let grows : next_ticket before ≤ next_ticket (e ∷ before) = next_grows (is_blocked e.reply) (next_ticket before) in
     elim (retries e.call t) as (λ b. retries e.call t ≡ b → ((b && not (keeps_ticket e.reply)) || spent before t) ≡ true → t < next_ticket (e ∷ before)) [
-      | true ↦ λ q here. let below : t < next_ticket before = owner_below birth before legal.0 t e.who (retries_held before e.who e.call t legal.1 q).holder in omega arith
+      | true ↦ λ q here. let below : t < next_ticket before = owner_below birth before legal.0 t e.who (retries_held birth before e.who e.call t legal.1 q).holder in omega arith
       | false ↦ λ q there. let below : t < next_ticket before = spent_below birth before legal.0 t there in omega arith
     ] refl is
 
@@ -69,9 +69,9 @@ fresh_unspent birth h legal t is = elim (spent h t) as (λ b. spent h t ≡ b �
   | false ↦ λ q. refl
 ] refl
 
-fresh_not_retried : (birth : Birth) (h : List Entry) → Legal birth h → (who : ℕ) (call : Call) (t : ℕ) → proper h who call ≡ true → t ≡ next_ticket h → retries call t ≡ false
+fresh_not_retried : (birth : Birth) (h : List Entry) → Legal birth h → (who : ℕ) (call : Call) (t : ℕ) → proper birth h who call ≡ true → t ≡ next_ticket h → retries call t ≡ false
 fresh_not_retried birth h legal who call t p is = elim (retries call t) as (λ b. retries call t ≡ b → b ≡ false) [
-  | true ↦ λ q. let below : t < next_ticket h = owner_below birth h legal t who (retries_held h who call t p q).holder in absurd (omega arith)
+  | true ↦ λ q. let below : t < next_ticket h = owner_below birth h legal t who (retries_held birth h who call t p q).holder in absurd (omega arith)
   | false ↦ λ q. refl
 ] refl
 
@@ -89,7 +89,7 @@ own_holds birth e before legal (Blocked n) is t w =
       unspent = rw (fresh_not_retried birth before legal.0 e.who e.call t legal.1 next, fresh_unspent birth before legal.0 t next) refl;
     }
 own_holds birth e before legal Waiting is t w =
-    let held : HoldsTicket before e.who t = retries_held before e.who e.call t legal.1 (retried_retries e.call t w) in record {
+    let held : HoldsTicket before e.who t = retries_held birth before e.who e.call t legal.1 (retried_retries e.call t w) in record {
       holder = rw is held.holder;
       unspent = rw (is, held.unspent, and_false (retries e.call t)) refl;
     }
@@ -104,7 +104,7 @@ other_holds birth e before legal who t other held = record {
     | false ↦ λ q. held.holder
   ] refl;
   unspent = elim (retries e.call t) as (λ b. retries e.call t ≡ b → ((b && not (keeps_ticket e.reply)) || spent before t) ≡ false) [
-    | true ↦ λ q. let mine : owner before t ≡ Some e.who = (retries_held before e.who e.call t legal.1 q).holder in
+    | true ↦ λ q. let mine : owner before t ≡ Some e.who = (retries_held birth before e.who e.call t legal.1 q).holder in
         let both : Some e.who ≡ Some who = sym mine ∙ held.holder in
         let same : e.who ≡ who = cc in absurd (differ e.who who other same)
     | false ↦ λ q. held.unspent
@@ -121,6 +121,6 @@ waits_holds birth (e ∷ before) legal who t is =
     ] refl is
 
 -- so it may retry it
-pub waits_may_retry : (birth : Birth) (h : List Entry) → Legal birth h → (who t : ℕ) → waits_under h who ≡ Some t → proper h who (Retry t Nothing) ≡ true
+pub waits_may_retry : (birth : Birth) (h : List Entry) → Legal birth h → (who t : ℕ) → waits_under h who ≡ Some t → proper birth h who (Retry t Nothing) ≡ true
 waits_may_retry birth h legal who t is =
     let held = waits_holds birth h legal who t is in rw (held.holder, held.unspent, nat_eq-same who) refl

@@ -32,7 +32,7 @@ run_of_bytes first count = record { range = range first count; zero = false }
 -- births: with two users and one pager, for a free and a trapping object of fixed size; on a disk, with one user and two
 -- pagers; with one of each
 abbrev pub born : ℕ → Option ℕ → Bool → Birth
-born pages limit trap = record { pages = pages; limit = limit; trap = trap; users = 2; pagers = 1; image = false }
+born pages limit trap = record { pages = pages; limit = limit; trap = trap; users = 2; pagers = 1; image = false; numbered = false }
 
 abbrev pub free : ℕ → Birth
 free pages = born pages None false
@@ -41,10 +41,14 @@ abbrev pub trapping : ℕ → Birth
 trapping pages = born pages None true
 
 abbrev pub on_disk : ℕ → Option ℕ → Birth
-on_disk pages limit = record { pages = pages; limit = limit; trap = false; users = 1; pagers = 2; image = true }
+on_disk pages limit = record { pages = pages; limit = limit; trap = false; users = 1; pagers = 2; image = true; numbered = false }
 
 abbrev pub with_one_user : ℕ → Birth
-with_one_user pages = record { pages = pages; limit = None; trap = false; users = 1; pagers = 1; image = false }
+with_one_user pages = record { pages = pages; limit = None; trap = false; users = 1; pagers = 1; image = false; numbered = false }
+
+-- with two users and so many pagers, whose begins have numbers
+abbrev pub numbered : ℕ → Option ℕ → ℕ → Birth
+numbered pages limit pagers = record { pages = pages; limit = limit; trap = false; users = 2; pagers = pagers; image = false; numbered = true }
 
 -- an entry: who made the call in which epoch, and what it answered
 abbrev pub by : ℕ → ℕ → Call → Reply → Entry

@@ -1,5 +1,5 @@
 -- What the tests of an entry say that it keeps: what is asked for and who waits, spent tickets, size, roles, and whether the object was changed.
-use Rattle.std.proofs.Common.{◌≡◌, ℕ, ◌==◌, ◌&&◌, ◌||◌, not, Bool, true, false, cond, Option, Some, None, List, ◌∷◌, refl, ap, sym, ◌∙◌, inl, inr}
+use Rattle.std.proofs.Common.{◌≡◌, ℕ, ◌&&◌, ◌||◌, not, Bool, true, false, Option, List, ◌∷◌, refl, inl, inr}
 use Rattle.std.proofs.lemmas.Bool.{or_cases, and_parts}
 use Rattle.up_num.specs.declared.answers.AskKind.{AskKind}
 use Rattle.up_num.specs.declared.answers.Outcome.TheVariants.{Waiting}
@@ -7,9 +7,9 @@ use Rattle.up_model.specs.Attempts.{Access, accepts, is_blocked, is_done, attemp
 use Rattle.up_model.specs.Size.{size}
 use Rattle.up_model.specs.Roles.{users, pagers, was_detached, detached, is_detach}
 use Rattle.up_model.specs.Asks.{asked, resolved}
-use Rattle.up_model.specs.Packets.{sent, requested, taken, is_packet}
-use Rattle.up_model.specs.Tickets.{next_ticket, owner, waits, spent, outcome, retries, keeps_ticket}
-use Rattle.up_model.specs.Modified.{modified, modifies, is_write, asks_other_size, is_zero_call, is_reset}
+use Rattle.up_model.specs.Packets.{requested, taken, is_packet}
+use Rattle.up_model.specs.Tickets.{next_ticket, owner, waits, spent, outcome, retries}
+use Rattle.up_model.specs.Modified.{modified, is_write, asks_other_size, is_zero_call, is_reset}
 use Rattle.up_model.specs.Concerns.{can_resolve, keeps_asks, is_retry, keeps_spent, sets_size, sets_roles, keeps_size, keeps_roles, is_touch, keeps_modified}
 use Rattle.up_model.specs.declared.entry.Birth.{Birth}
 use Rattle.up_model.specs.declared.entry.Entry.{Entry}
@@ -34,7 +34,7 @@ may_not : (call : Call) → can_resolve call ≡ false → may_resolve call ≡ 
 may_not (calls.Supply range bytes brought) k = absurd cc
 may_not (calls.Fail range code) k = absurd cc
 may_not (calls.Dirty range brought) k = absurd cc
-may_not (calls.End range) k = absurd cc
+may_not (calls.End range of) k = absurd cc
 may_not (calls.Resize pages) k = absurd cc
 may_not (calls.Zero range) k = absurd cc
 may_not calls.Detach k = absurd cc

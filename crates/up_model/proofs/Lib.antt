@@ -20,6 +20,8 @@ mod RowsWaiting
 mod RowsWriteback
 mod RowsReclaim
 mod RowsPager
+mod RowsNumbered
+mod ComputedNumbers
 mod ComputedDeeds
 mod ComputedStates
 mod ComputedAsks
@@ -47,3 +49,5 @@ pub mod ReadBack
 pub mod Ordered
 pub mod Meant
 pub mod WaitersAsked
+pub mod Numbered
+pub mod Numbering

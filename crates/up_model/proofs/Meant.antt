@@ -9,7 +9,7 @@ use Rattle.up_model.specs.Attempts.{page_of, accepts, is_blocked, blocks, attemp
 use Rattle.up_model.specs.Size.{size, resized}
 use Rattle.up_model.specs.Deeds.{writes, blanks, written}
 use Rattle.up_model.specs.Value.{or_else}
-use Rattle.up_model.specs.States.{plain, awaiting, empties}
+use Rattle.up_model.specs.States.{plain, unclean, closing, empties}
 use Rattle.up_model.specs.Asks.{resolved, is_waiting}
 use Rattle.up_model.specs.Pages.{list_pages}
 use Rattle.up_model.specs.Tickets.{next_ticket, owner, waits, outcome, wakes, woken_from, woken}
@@ -149,6 +149,6 @@ frees_both true false plain await = refl
 frees_both false true plain await = refl
 frees_both false false plain await = refl
 
-pub emptying_frees : (birth : Birth) (e : Entry) (before : List Entry) (range : Span) → e.call ≡ End range → (p : ℕ) →
+pub emptying_frees : (birth : Birth) (e : Entry) (before : List Entry) (range : Span) (of : Option ℕ) → e.call ≡ End range of → (p : ℕ) →
     resolved birth before e DirtyAsk p ≡ cond (empties birth before e p) Freed Waiting
-emptying_frees birth e before range is p = rw is (frees_both (accepts e.reply) (covers range p) (plain birth before p) (awaiting birth before p))
+emptying_frees birth e before range of is p = rw is (frees_both (accepts e.reply) (covers range p) (plain birth before p) (unclean birth before p && closing birth before range of p))

@@ -79,13 +79,13 @@ zero_within birth h who epoch (Zero range) p over is =
 zero_within birth h who epoch _ p over is = absurd cc
 
 -- a proper supply brings a byte for each offset of its pages
-supplied_byte : (h : List Entry) (who : ℕ) (call : Call) (p i : ℕ) → over_supply call p ≡ true → proper h who call ≡ true → i < 4096 → is_some (supplied call (4096 * p + i)) ≡ true
-supplied_byte h who (Supply range bytes brought) p i over owed small =
+supplied_byte : (birth : Birth) (h : List Entry) (who : ℕ) (call : Call) (p i : ℕ) → over_supply call p ≡ true → proper birth h who call ≡ true → i < 4096 → is_some (supplied call (4096 * p + i)) ≡ true
+supplied_byte birth h who (Supply range bytes brought) p i over owed small =
     let bounds = covers_bounds range p over in
     let long : length bytes ≡ 4096 * range.count = nat_eq_true _ _ (and_left _ _ owed) in
     let inside : 4096 * p + i - 4096 * range.first < length bytes = omega arith in
     rw (slice_get-get_or bytes (4096 * p + i - 4096 * range.first) 0 inside) refl
-supplied_byte h who _ p i over owed small = absurd cc
+supplied_byte birth h who _ p i over owed small = absurd cc
 
 -- the byte after an entry, by what the entry does to its page
 pub value_in : (birth : Birth) (e : Entry) (before : List Entry) (p x : ℕ) → page_of x ≡ p →
@@ -125,7 +125,7 @@ byte_after : (birth : Birth) (e : Entry) (before : List Entry) → Legal birth (
 byte_after birth e before legal p i small same =
     rw (value_in birth e before p (4096 * p + i) (page_inside p i small))
     (some_after (writes before e p) (supplies e p) (blanks birth before e p) (drops birth before e p || empties birth before e p) (there birth before p) _ _ _
-    same (write_there birth e before legal p) (λ is. supplied_byte before e.who e.call p i (and_left _ _ is) legal.1 small))
+    same (write_there birth e before legal p) (λ is. supplied_byte birth before e.who e.call p i (and_left _ _ is) legal.1 small))
 
 pub there_is : (birth : Birth) (e : Entry) (before : List Entry) → Legal birth (e ∷ before) → (p : ℕ) → there birth (e ∷ before) p ≡ there_after birth e before p
 there_is birth e before legal p =

@@ -1,11 +1,10 @@
 -- A page that an entry doesn't concern is as it was: its bytes, what it is, pins, hint and use.
-use Rattle.std.proofs.Common.{◌≡◌, ℕ, ◌<◌, ◌==◌, ◌&&◌, ◌||◌, not, Bool, true, false, cond, Option, Some, None, is_some, List, ◌∷◌, length, refl, ap, sym, ◌∙◌, subst}
+use Rattle.std.proofs.Common.{◌≡◌, ℕ, ◌&&◌, ◌||◌, not, Bool, true, false, cond, Option, Some, None, is_some, List, ◌∷◌, length, refl, ap}
 use Rattle.std.proofs.lemmas.Bool.{or_parts, or_from}
-use Rattle.up_model.specs.Attempts.{Access, page_of, accepts, is_bytes, attempt}
+use Rattle.up_model.specs.Attempts.{Access, accepts, is_bytes, attempt}
 use Rattle.up_model.specs.Size.{size, asks_to_grow, asks_to_cut, cuts}
-use Rattle.up_model.specs.Deeds.{writes_in, reads_in, writes, reads, over_supply, over_dirty, over_begin, over_end, over_pin, over_unpin, over_zero, is_always, over_always, over_cold, supplies, unpins_one, zeroes, hints_always, hints_cold, reclaims, says_evicted, says_moved, evicts, moves, of_borrow, says_borrowed, borrows, blanks, drops}
-use Rattle.up_model.specs.Value.{there, marked, settled, begun, takes}
-use Rattle.up_model.specs.Pins.{pins, always, loaned}
+use Rattle.up_model.specs.Deeds.{writes_in, reads_in, writes, reads, over_supply, over_dirty, over_begin, over_end, over_pin, over_unpin, over_zero, is_always, over_always, over_cold, unpins_one, zeroes, hints_always, hints_cold, reclaims, says_evicted, says_moved, evicts, moves, of_borrow, says_borrowed, borrows, dirties, drops}
+use Rattle.up_model.specs.Pins.{always, loaned}
 use Rattle.up_model.specs.Use.{uses, last_use, newest_epoch, generation, cold_since}
 use Rattle.up_model.specs.Looks.{look_by, look_of}
 use Rattle.up_model.specs.Concerns.{in_page, call_concerns, concerns}
@@ -59,12 +58,16 @@ unused_same birth e h p unused warm = record {
   chilled = λ i. cond (warm i) (Some (length h)) (cond (unused i) None (cold_since birth h p));
 }
 
+pub idle_undirtied : (birth : Birth) (e : Entry) (h : List Entry) (p : ℕ) → Idle birth e h p → dirties birth h e p ≡ false
+idle_undirtied birth e h p i = or_from _ _ i.no_write (or_from _ _ i.no_dirty i.no_blank)
+
 pub quiet_page : (birth : Birth) (e : Entry) (h : List Entry) (p : ℕ) → Quiet birth e h p → SamePage birth e h p
 quiet_page birth e h p q = record {
   looks = quiet_look birth e h p q;
   bytes = λ i lt. idle_byte birth e h p i lt q.idle;
   marks = quiet_marks birth e h p q;
   usage = unused_same birth e h p (quiet_unused birth e h p q) q.no_cold;
+  undirtied = idle_undirtied birth e h p q.idle;
 }
 
 -- An entry that isn't accepted.
@@ -115,7 +118,7 @@ off_begin (calls.Begin range only_zero) n r p k = k
 off_begin _ n r p k = refl
 
 off_end : (call : Call) (n : ℕ) (r : Reply) (p : ℕ) → call_concerns call n r p ≡ false → over_end call p ≡ false
-off_end (calls.End range) n r p k = k
+off_end (calls.End range of) n r p k = k
 off_end _ n r p k = refl
 
 off_pin : (call : Call) (n : ℕ) (r : Reply) (p : ℕ) → call_concerns call n r p ≡ false → over_pin call p ≡ false

@@ -108,6 +108,6 @@ pub reads_values : (birth : Birth) (e : Entry) (before : List Entry) → Legal b
     (n : ℕ) → n < a.len → slice_get bytes n ≡ value birth before (a.off + n)
 reads_values birth e before legal a bytes tried is n small =
     let found = entry_bytes birth e before legal a bytes tried is in
-    let inside = attempt_within before e.who e.call a (parked_within birth before legal.0) legal.1 tried in
+    let inside = attempt_within birth before e.who e.call a (parked_within birth before legal.0) legal.1 tried in
     ap (λ (l : List ℕ). slice_get l n) (sym found.gives) ∙ byte_from birth before a.off a.len n small ∙
     some_byte (value birth before (a.off + n)) (has_byte birth before legal.0 (page_of a.off) (a.off + n) (same_page a.off a.len n inside small) found.here)

@@ -1,29 +1,28 @@
 -- What an entry makes of those who wait: one that parks, one whose events happen, one that detaches, one that takes a packet; and of who acts.
-use Rattle.std.proofs.Common.{◌≡◌, ℕ, ◌+◌, ◌-◌, ◌<◌, ◌==◌, ◌&&◌, ◌||◌, not, Bool, true, false, cond, Option, Some, None, option_map, List, [], ◌∷◌, ◌++◌, length, suc, refl, ap, sym, ◌∙◌, inl, inr}
+use Rattle.std.proofs.Common.{◌≡◌, ℕ, ◌<◌, ◌==◌, ◌&&◌, ◌||◌, not, Bool, true, false, cond, Option, Some, None, option_map, List, [], ◌∷◌, ◌++◌, suc, refl, ap, sym, ◌∙◌}
 use Rattle.up_num.specs.Span.{Span}
 use Rattle.up_num.specs.declared.answers.AskKind.{AskKind}
 use Rattle.up_num.specs.declared.answers.Outcome.{Outcome}
 use Rattle.up_num.specs.declared.answers.Outcome.TheVariants.{Waiting, Detached as DetachedOutcome}
 use Rattle.up_num.specs.declared.answers.Packet.{Packet}
 use Rattle.up_num.specs.declared.answers.Packet.TheVariants.{Complete}
-use Rattle.up_model.specs.Attempts.{Access, accepts, is_blocked, is_done, attempt, parked}
+use Rattle.up_model.specs.Attempts.{Access, accepts, is_done, attempt, parked}
 use Rattle.up_model.specs.Size.{size}
-use Rattle.up_model.specs.Roles.{users, pagers, was_detached, detached}
+use Rattle.up_model.specs.Roles.{detached}
 use Rattle.up_model.specs.Asks.{Ask, asked, asks, want, resolves, resolved, is_waiting}
-use Rattle.up_model.specs.Packets.{packets, requested, sent, taken, is_packet}
-use Rattle.up_model.specs.Tickets.{next_ticket, owner, waits, spent, outcome, keeps_ticket, resolved_for, then_outcome}
+use Rattle.up_model.specs.Packets.{packets, requested, sent, taken}
+use Rattle.up_model.specs.Tickets.{next_ticket, owner, waits, outcome, keeps_ticket, resolved_for, then_outcome}
 use Rattle.up_model.specs.Modified.{modified, is_reset, is_write, asks_other_size, is_zero_call}
 use Rattle.up_model.specs.Concerns.{is_touch}
 use Rattle.up_model.specs.Changes.{Parks, Happens, Detaches, TakesPacket, Spends, SetsModified, Departs, CutsOff}
-use Rattle.up_model.specs.Legal.{Legal}
 use Rattle.up_model.specs.declared.entry.Birth.{Birth}
 use Rattle.up_model.specs.declared.entry.Brought.{Brought}
 use Rattle.up_model.specs.declared.entry.Entry.{Entry}
 use Rattle.up_model.specs.declared.entry.Call.{Call}
 use Rattle.up_model.specs.declared.entry.Call.TheVariants as calls
 use Rattle.up_model.specs.declared.entry.Role.TheVariants.{User, Pager}
-use Rattle.up_model.specs.declared.entry.Reply.TheVariants.{Blocked, Left}
-use Rattle.up_model.proofs.Steps.{accepted_parks_none, blocks_none, resolved_refused, outcome_kept, detached_refused, requested_kept, next_ticket_kept, parked_kept, owner_kept, waits_kept, taken_kept, taken_more, asked_resolved, asked_kept, spent_retry}
+use Rattle.up_model.specs.declared.entry.Reply.TheVariants.{Left}
+use Rattle.up_model.proofs.Steps.{accepted_parks_none, resolved_refused, outcome_kept, detached_refused, requested_kept, next_ticket_kept, parked_kept, owner_kept, waits_kept, taken_kept, taken_more, asked_resolved, spent_retry}
 
 -- An entry that parks an access.
 

@@ -6,8 +6,8 @@ use Rattle.std.proofs.lemmas.Bool.Decides.{nat_tests}
 use Rattle.up_model.specs.Attempts.{accepts}
 use Rattle.up_model.specs.Size.{size, resized, asks_to_cut, asks_to_grow, grows, range_fits}
 use Rattle.up_model.specs.Deeds.{writes, supplies, over_supply, over_dirty, over_end, lets_dirty, ends, pins_one, unpins_one, zeroes, blanks, drops, evicts, moves, of_borrow, says_borrowed, borrows}
-use Rattle.up_model.specs.Value.{there, settled, marked, begun}
-use Rattle.up_model.specs.States.{plain, unclean, empties}
+use Rattle.up_model.specs.Value.{there, settled, marked}
+use Rattle.up_model.specs.States.{plain, unclean, closes, empties}
 use Rattle.up_model.specs.Roles.{detached}
 use Rattle.up_model.specs.Pins.{pins, loaned, ends_loan}
 use Rattle.up_model.specs.Reply.{reply, first_in, absent, is_pinned}
@@ -27,7 +27,7 @@ never_here : (e m : Bool) → (cond (e && false) false false && m) ≡ true → 
 never_here true m is = cc
 never_here false m is = cc
 
--- the tests of an entry, and what held before it: dirtied by a write, by leave or as zeros; taken otherwise; there, marked, begun, settled
+-- the tests of an entry, and what held before it: dirtied by a write, by leave or as zeros; taken otherwise; there, marked, closed, settled
 plain_step : (write leave blank pin supply take end here mark run rest : Bool) → (supply ≡ true → end ≡ false) → ((here && mark) ≡ true → rest ≡ false) →
     (cond write true (cond supply true (cond blank true (cond (take || (end && ((here && mark) && ((here && not rest) && run)))) false here)))
     && cond blank true (cond (write || pin) false (cond supply (here && mark) mark))) ≡ true →
@@ -46,7 +46,7 @@ plain_step false false false false false false true true true true false no_end 
 plain_step false false false false false false true true true false q no_end was is = was refl
 
 supply_ends_none : (call : Call) (p : ℕ) → over_supply call p ≡ true → over_end call p ≡ false
-supply_ends_none (End range) p is = absurd cc
+supply_ends_none (End range of) p is = absurd cc
 supply_ends_none _ p is = refl
 
 -- a zero page isn't settled
@@ -55,7 +55,7 @@ plain_unsettled birth [] legal p is = let none = value_none birth (4096 * p) in 
 plain_unsettled birth (e ∷ before) legal p is =
     rw (settled_is birth e before p)
     (plain_step (writes before e p) (lets_dirty e p) (blanks birth before e p) (pins_one e p) (supplies e p) (drops birth before e p) (ends e p)
-    (there birth before p) (marked birth before p) (begun birth before p) (settled birth before p)
+    (there birth before p) (marked birth before p) (closes birth before e p) (settled birth before p)
     (λ given. rw (supply_ends_none e.call p (and_left _ _ given)) refl) (plain_unsettled birth before legal.0 p)
     (rw (there_is birth e before legal p, marked_is birth e before p) at is))
 
@@ -142,7 +142,7 @@ absent_settled birth [] legal p low absent = settled_none birth p
 absent_settled birth (e ∷ before) legal p low gone =
     rw (settled_is birth e before p)
     (rest_step (writes before e p) (lets_dirty e p) (blanks birth before e p) (supplies e p) (drops birth before e p) (ends e p) (empties birth before e p)
-    (there birth before p) (begun birth before p) (settled birth before p)
+    (there birth before p) (closes birth before e p) (settled birth before p)
     (after_leave birth e before legal p)
     (λ dropped. elim (or_cases (evicts e p) _ dropped) [
       | inl evicted ↦ (evicted_page birth e before legal p evicted).rests
@@ -181,9 +181,9 @@ spared_loaned : (birth : Birth) (e : Entry) (before : List Entry) → Legal birt
 spared_loaned birth e before legal p spares was = record {
   here = rw (there_is birth e before legal p)
       (stays_there (writes before e p) (supplies e p) (blanks birth before e p) (drops birth before e p || empties birth before e p) (there birth before p)
-      (or_from _ _ spares.undropped (settled_stays (ends e p) (plain birth before p) (there birth before p) (begun birth before p) (settled birth before p) was.rests)) was.here);
+      (or_from _ _ spares.undropped (settled_stays (ends e p) (plain birth before p) (there birth before p) (closes birth before e p) (settled birth before p) was.rests)) was.here);
   rests = rw (settled_is birth e before p, spares.unwritten, spares.unasked, spares.unzeroed, spares.ungrown)
-      (rested (ends e p) (begun birth before p) (settled birth before p) was.rests);
+      (rested (ends e p) (closes birth before e p) (settled birth before p) was.rests);
   unpinned = rw spares.unpinned (pins_step (unpins_one e p) (pins before p) was.unpinned);
 }
 

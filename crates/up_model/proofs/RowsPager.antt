@@ -1,5 +1,5 @@
 -- Journals that the sample pager leaves, with what it says: each is legal by computation alone. Actor 0 is a user, 1 and 2 are workers, 3 is the evictor.
-use Rattle.std.specs.Prelude.{true, false, Some, List, [], ◌∷◌, replicate, refl}
+use Rattle.std.specs.Prelude.{true, false, Some, None, List, [], ◌∷◌, replicate, refl}
 use Rattle.up_num.specs.declared.answers.Code.TheVariants.{Io}
 use Rattle.up_num.specs.declared.answers.Packet.TheVariants.{Read as ReadPacket}
 use Rattle.up_model.specs.Value.{value}
@@ -44,12 +44,12 @@ written_back_twice =
     by 1 0 calls.Packet (answer.Packet (ReadPacket (range 0 1))) ∷
     by 0 0 (read_at 0 1 0) (answer.Blocked 1) ∷
     by 3 0 (calls.Evict 0 1) (answer.Pages (page 0 ∷ [])) ∷
-    by 2 0 (calls.End (range 0 1)) (answer.Woke []) ∷
+    by 2 0 (calls.End (range 0 1) None) (answer.Woke []) ∷
     by 2 0 (calls.Tell (Stored (page 0) true)) answer.Noted ∷
     by 2 0 (calls.Tell (Copied (range 0 1))) answer.Noted ∷
     by 3 0 (calls.Evict 0 1) (answer.Pages []) ∷
     by 2 0 (calls.Begin (range 0 1) false) answer.Done ∷
-    by 1 0 (calls.End (range 0 1)) (answer.Woke []) ∷
+    by 1 0 (calls.End (range 0 1) None) (answer.Woke []) ∷
     by 1 0 (calls.Tell (Stored (page 0) true)) answer.Noted ∷
     by 0 0 (calls.Tell (Busy 0 (range 0 1))) answer.Noted ∷
     by 0 0 (write_at 0 66 0 Nothing) answer.Done ∷
@@ -69,7 +69,7 @@ written_back_twice-legal = ((((((((((((((((((((((((tt, refl, refl), refl, refl),
 -- three new pages are stored; the first try fails at the second page
 abbrev pub grown_then_stored : List Entry
 grown_then_stored =
-    by 1 0 (calls.End (range 0 3)) (answer.Woke []) ∷
+    by 1 0 (calls.End (range 0 3) None) (answer.Woke []) ∷
     by 1 0 (calls.Tell (Stored (page 2) true)) answer.Noted ∷
     by 1 0 (calls.Tell (Stored (page 1) true)) answer.Noted ∷
     by 1 0 (calls.Tell (Stored (page 0) true)) answer.Noted ∷

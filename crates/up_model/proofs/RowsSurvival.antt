@@ -16,7 +16,7 @@ abbrev pub kept_over_a_writeback : List Entry
 kept_over_a_writeback =
     by 0 0 (read_at 0 2 0) (answer.Bytes (65 ∷ 66 ∷ [])) ∷
     by 3 0 (calls.Evict 0 8) (answer.Pages []) ∷
-    by 2 0 (calls.End (range 0 1)) (answer.Woke []) ∷
+    by 2 0 (calls.End (range 0 1) None) (answer.Woke []) ∷
     by 0 0 (write_at 1 66 0 Nothing) answer.Done ∷
     by 2 0 (calls.Begin (range 0 1) false) answer.Done ∷
     by 0 0 (write_at 0 65 0 Nothing) answer.Done ∷
@@ -59,7 +59,7 @@ read_by_a_writeback =
     by 0 0 (read_at 0 1 0) (answer.Bytes (122 ∷ [])) ∷
     by 2 0 (supply 0 1 122) (answer.Took 1 []) ∷
     by 3 0 (calls.Evict 0 8) (answer.Pages (page 0 ∷ [])) ∷
-    by 2 0 (calls.End (range 0 1)) (answer.Woke []) ∷
+    by 2 0 (calls.End (range 0 1) None) (answer.Woke []) ∷
     by 2 0 (read_at 0 1 0) (answer.Bytes (65 ∷ [])) ∷
     by 2 0 (calls.Begin (range 0 1) false) answer.Done ∷
     by 0 0 (write_at 0 65 0 Nothing) answer.Done ∷

@@ -1,5 +1,5 @@
 -- Journals of accesses that wait, of supplies, packets and failures: each is legal by computation alone.
-use Rattle.std.specs.Prelude.{false, List, [], ◌∷◌, replicate, refl}
+use Rattle.std.specs.Prelude.{false, None, List, [], ◌∷◌, replicate, refl}
 use Rattle.up_num.specs.declared.answers.Code.TheVariants.{Io}
 use Rattle.up_num.specs.declared.answers.Packet.TheVariants.{Read as ReadPacket, Dirty as DirtyPacket, Complete}
 use Rattle.up_model.specs.Value.{value}
@@ -157,7 +157,7 @@ detached_with_both_asks =
     by 2 0 calls.Packet (answer.Packet (ReadPacket (range 2 1))) ∷
     by 2 0 calls.Packet (answer.Packet (DirtyPacket (range 1 1))) ∷
     by 2 0 calls.Detach (answer.Refused refusal.Detached) ∷
-    by 2 0 (calls.End (range 0 3)) (answer.Woke []) ∷
+    by 2 0 (calls.End (range 0 3) None) (answer.Woke []) ∷
     by 2 0 (calls.Begin (range 0 3) false) answer.Done ∷
     by 1 0 (calls.Retry 1 Nothing) (answer.Refused refusal.Detached) ∷
     by 0 0 (calls.Retry 0 Nothing) (answer.Refused refusal.Detached) ∷

@@ -1,5 +1,5 @@
 -- Journals of pages that get dirty, and of their writeback: each is legal by computation alone.
-use Rattle.std.specs.Prelude.{true, false, Some, List, [], ◌∷◌, refl}
+use Rattle.std.specs.Prelude.{true, false, Some, None, List, [], ◌∷◌, refl}
 use Rattle.up_num.specs.declared.answers.Packet.TheVariants.{Dirty as DirtyPacket}
 use Rattle.up_model.specs.Value.{value}
 use Rattle.up_model.specs.Legal.{Legal}
@@ -14,7 +14,7 @@ use Rattle.up_model.specs.declared.entry.Reply.TheVariants as answer
 abbrev pub written_since_its_begin : List Entry
 written_since_its_begin =
     by 2 0 (calls.Query (range 0 1) 4) (answer.Ranges 1 (run_of_bytes 0 1 ∷ [])) ∷
-    by 2 0 (calls.End (range 0 1)) (answer.Woke []) ∷
+    by 2 0 (calls.End (range 0 1) None) (answer.Woke []) ∷
     by 0 0 (write_at 1 66 0 Nothing) answer.Done ∷
     by 2 0 (calls.Begin (range 0 1) false) answer.Done ∷
     by 0 0 (write_at 0 65 0 Nothing) answer.Done ∷
@@ -29,7 +29,7 @@ abbrev pub dirty_again_not_evicted : List Entry
 dirty_again_not_evicted =
     by 2 0 (calls.Query (range 0 1) 4) (answer.Ranges 1 (run_of_bytes 0 1 ∷ [])) ∷
     by 3 0 (calls.Evict 0 8) (answer.Pages []) ∷
-    by 2 0 (calls.End (range 0 1)) (answer.Woke []) ∷
+    by 2 0 (calls.End (range 0 1) None) (answer.Woke []) ∷
     by 0 0 (write_at 1 66 0 Nothing) answer.Done ∷
     by 2 0 (calls.Begin (range 0 1) false) answer.Done ∷
     by 0 0 (write_at 0 65 0 Nothing) answer.Done ∷
@@ -42,11 +42,11 @@ dirty_again_not_evicted-legal = (((((((tt, refl, refl), refl, refl), refl, refl)
 -- the second begin counts for the second write, and the ends after it find nothing more
 abbrev pub written_back_at_last : List Entry
 written_back_at_last =
-    by 2 0 (calls.End (range 0 1)) (answer.Woke []) ∷
+    by 2 0 (calls.End (range 0 1) None) (answer.Woke []) ∷
     by 2 0 (calls.Query (range 0 1) 4) (answer.Ranges 0 []) ∷
-    by 2 0 (calls.End (range 0 1)) (answer.Woke []) ∷
+    by 2 0 (calls.End (range 0 1) None) (answer.Woke []) ∷
     by 2 0 (calls.Query (range 0 1) 4) (answer.Ranges 0 []) ∷
-    by 2 0 (calls.End (range 0 1)) (answer.Woke []) ∷
+    by 2 0 (calls.End (range 0 1) None) (answer.Woke []) ∷
     by 2 0 (calls.Begin (range 0 1) false) answer.Done ∷
     by 0 0 (write_at 0 66 0 Nothing) answer.Done ∷
     by 2 0 (calls.Begin (range 0 1) false) answer.Done ∷
@@ -64,7 +64,7 @@ cleaned_and_evicted =
     by 2 0 (supply 0 1 122) (answer.Took 1 (0 ∷ [])) ∷
     by 0 0 (read_at 0 1 0) (answer.Blocked 0) ∷
     by 3 0 (calls.Evict 0 1) (answer.Pages (page 0 ∷ [])) ∷
-    by 2 0 (calls.End (range 0 1)) (answer.Woke []) ∷
+    by 2 0 (calls.End (range 0 1) None) (answer.Woke []) ∷
     by 2 0 (calls.Begin (range 0 1) false) answer.Done ∷
     by 0 0 (write_at 0 65 0 Nothing) answer.Done ∷
     by 2 0 (supply 0 1 97) (answer.Took 1 []) ∷ []
@@ -144,7 +144,7 @@ abbrev pub emptied_under_a_write : List Entry
 emptied_under_a_write =
     by 2 0 (calls.Query (range 0 1) 4) (answer.Ranges 0 []) ∷
     by 0 0 (calls.Retry 0 Nothing) (answer.Blocked 1) ∷
-    by 2 0 (calls.End (range 0 1)) (answer.Woke (0 ∷ [])) ∷
+    by 2 0 (calls.End (range 0 1) None) (answer.Woke (0 ∷ [])) ∷
     by 0 0 (write_at 0 65 0 Nothing) (answer.Blocked 0) ∷
     by 2 0 (calls.Begin (range 0 1) true) answer.Done ∷
     by 0 0 (calls.Zero (range 0 1)) (answer.Woke []) ∷
@@ -159,7 +159,7 @@ abbrev pub grown_and_ended : List Entry
 grown_and_ended =
     by 0 0 (read_at 12288 1 3) (answer.Blocked 0) ∷
     by 2 0 (calls.Query (range 0 4) 8) (answer.Ranges 1 (run_of_bytes 2 1 ∷ [])) ∷
-    by 2 0 (calls.End (range 0 4)) (answer.Woke []) ∷
+    by 2 0 (calls.End (range 0 4) None) (answer.Woke []) ∷
     by 2 0 (calls.Begin (range 0 4) true) answer.Done ∷
     by 0 0 (write_at 8192 65 2 (Frames 1)) answer.Done ∷
     by 0 0 (write_at 8192 65 2 Nothing) (answer.Needs 1) ∷

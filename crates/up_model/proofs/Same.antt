@@ -64,6 +64,7 @@ same_refusal (refusal.Unpinned a) (refusal.Unpinned b) h = ap refusal.Unpinned (
 same_refusal (refusal.PinLimit a) (refusal.PinLimit b) h = ap refusal.PinLimit (same_page a b h)
 same_refusal (refusal.Unclean a) (refusal.Unclean b) h = ap refusal.Unclean (same_page a b h)
 same_refusal refusal.NoFrames refusal.NoFrames h = refl
+same_refusal (refusal.NotBegun a) (refusal.NotBegun b) h = ap refusal.NotBegun (same_number a b h)
 same_refusal _ _ h = absurd (true≢false (sym h))
 
 same_items : {T : Type 0} (E : T → T → Bool) → ((a b : T) → E a b ≡ true → a ≡ b) → (xs ys : List T) → pointwise E xs ys ≡ true → xs ≡ ys
@@ -76,6 +77,7 @@ same_items E told (x ∷ xs) (y ∷ ys) h =
 pub same_reply : (a b : Reply) → replies.ghosts.eq a b ≡ true → a ≡ b
 same_reply (reply.Bytes a) (reply.Bytes b) h = ap reply.Bytes (same_items _ same_number a b h)
 same_reply reply.Done reply.Done h = refl
+same_reply (reply.Began a) (reply.Began b) h = ap reply.Began (same_number a b h)
 same_reply (reply.Blocked a) (reply.Blocked b) h = ap reply.Blocked (same_number a b h)
 same_reply reply.Waiting reply.Waiting h = refl
 same_reply (reply.Needs a) (reply.Needs b) h = ap reply.Needs (same_number a b h)

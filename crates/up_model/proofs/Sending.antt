@@ -103,8 +103,8 @@ packet_below birth h who epoch (calls.Dirty range brought) is =
     let never : IsOther (reply birth h who epoch (calls.Dirty range brought)) = search (rules, other_where, other_at, other_frames, other) in let no = never.is in absurd cc
 packet_below birth h who epoch (calls.Begin range only_zero) is =
     let never : IsOther (reply birth h who epoch (calls.Begin range only_zero)) = search (rules, other_where, other) in let no = never.is in absurd cc
-packet_below birth h who epoch (calls.End range) is =
-    let never : IsOther (reply birth h who epoch (calls.End range)) = search (rules, other_where, other) in let no = never.is in absurd cc
+packet_below birth h who epoch (calls.End range of) is =
+    let never : IsOther (reply birth h who epoch (calls.End range of)) = search (rules, other_where, other) in let no = never.is in absurd cc
 packet_below birth h who epoch (calls.Query range room) is =
     let never : IsOther (reply birth h who epoch (calls.Query range room)) = search (rules, other_where, other) in let no = never.is in absurd cc
 packet_below birth h who epoch (calls.Hint range kind) is =

@@ -7,10 +7,10 @@ use Rattle.up_num.specs.declared.answers.AskKind.{AskKind}
 use Rattle.up_num.specs.declared.answers.Outcome.{Outcome}
 use Rattle.up_num.specs.declared.answers.Outcome.TheVariants.{Waiting, Freed, Failed, Detached, Shrunk}
 use Rattle.up_model.specs.Attempts.{Access, page_of, accepts, is_blocked, blocks, is_done, attempt_of, attempt, parked}
-use Rattle.up_model.specs.Deeds.{writes_in, writes, over_supply, over_dirty, over_begin, over_end, over_pin, over_zero, supplies, lets_dirty, begins, ends, pins_one, blanks, drops, reclaims, says_evicted}
+use Rattle.up_model.specs.Deeds.{Named, is_named, named, writes_in, writes, over_supply, over_dirty, over_begin, over_end, over_pin, over_zero, supplies, lets_dirty, begins, ends, pins_one, blanks, drops, reclaims, says_evicted}
 use Rattle.up_model.specs.Size.{size, resized, asks_to_grow, asks_to_cut}
-use Rattle.up_model.specs.Value.{value, marked, begun, settled, there, or_else}
-use Rattle.up_model.specs.States.{plain, awaiting}
+use Rattle.up_model.specs.Value.{value, marked, begun_by, begun, settled, there, or_else}
+use Rattle.up_model.specs.States.{plain, empty_at_end}
 use Rattle.up_model.specs.Roles.{users, pagers, detached, leaves_user, leaves_pager, is_left, is_detach}
 use Rattle.up_model.specs.Asks.{Ask, asked, resolves, resolved, is_waiting}
 use Rattle.up_model.specs.Packets.{requested, taken, is_packet}
@@ -23,7 +23,7 @@ use Rattle.up_model.specs.declared.entry.Call.TheVariants as calls
 use Rattle.up_model.specs.declared.entry.Reply.{Reply}
 use Rattle.up_model.specs.declared.entry.Reply.TheVariants as answer
 use Rattle.up_model.proofs.Bools.{and_false, and_true, and_left}
-use Rattle.up_model.proofs.Equations.{value_is, marked_is, begun_is, settled_is}
+use Rattle.up_model.proofs.Equations.{value_is, marked_is, begun_by_is, begun_is, settled_is}
 
 pub page_start : (p : ℕ) → page_of (4096 * p) ≡ p
 page_start p = omega arith
@@ -60,6 +60,9 @@ idle_marked birth e h p i = rw (marked_is, i.no_blank, i.no_write, i.no_pin, i.n
 pub idle_begun : (birth : Birth) (e : Entry) (h : List Entry) (p : ℕ) → Idle birth e h p → begun birth (e ∷ h) p ≡ begun birth h p
 idle_begun birth e h p i = rw (begun_is, i.no_write, i.no_dirty, i.no_blank, i.no_begin) refl
 
+pub idle_begun_by : (birth : Birth) (e : Entry) (h : List Entry) (which : Named) (p : ℕ) → Idle birth e h p → begun_by birth (e ∷ h) which p ≡ begun_by birth h which p
+idle_begun_by birth e h which p i = rw (begun_by_is, i.no_write, i.no_dirty, i.no_blank, i.no_begin, and_false (is_named which e.reply)) refl
+
 pub idle_settled : (birth : Birth) (e : Entry) (h : List Entry) (p : ℕ) → Idle birth e h p → settled birth (e ∷ h) p ≡ settled birth h p
 idle_settled birth e h p i = rw (settled_is, i.no_write, i.no_dirty, i.no_blank, i.no_end) refl
 
@@ -91,7 +94,7 @@ abbrev pub keeps_pages : Call → Bool
 keeps_pages (calls.Supply range bytes brought) = false
 keeps_pages (calls.Dirty range brought) = false
 keeps_pages (calls.Begin range only_zero) = false
-keeps_pages (calls.End range) = false
+keeps_pages (calls.End range of) = false
 keeps_pages (calls.Pin range brought) = false
 keeps_pages (calls.Evict limit most) = false
 keeps_pages (calls.Vacate brought) = false
@@ -114,7 +117,7 @@ keeps : (call : Call) → keeps_pages call ≡ true → Keeps call
 keeps (calls.Supply range bytes brought) k = absurd cc
 keeps (calls.Dirty range brought) k = absurd cc
 keeps (calls.Begin range only_zero) k = absurd cc
-keeps (calls.End range) k = absurd cc
+keeps (calls.End range of) k = absurd cc
 keeps (calls.Pin range brought) k = absurd cc
 keeps (calls.Evict limit most) k = absurd cc
 keeps (calls.Vacate brought) k = absurd cc
@@ -193,7 +196,7 @@ written_call : (held : ℕ → Option Access) (call : Call) (p : ℕ) → writes
 written_call held (calls.Supply range bytes brought) p w = absurd cc
 written_call held (calls.Dirty range brought) p w = absurd cc
 written_call held (calls.Begin range only_zero) p w = absurd cc
-written_call held (calls.End range) p w = absurd cc
+written_call held (calls.End range of) p w = absurd cc
 written_call held (calls.Pin range brought) p w = absurd cc
 written_call held (calls.Evict limit most) p w = absurd cc
 written_call held (calls.Vacate brought) p w = absurd cc
@@ -218,10 +221,10 @@ pub value_pin : (birth : Birth) (e : Entry) (h : List Entry) (range : Span) (bro
     e.call ≡ calls.Pin range brought → value birth (e ∷ h) x ≡ value birth h x
 value_pin birth e h range brought x c = rw (value_is, c) refl
 
-pub value_end : (birth : Birth) (e : Entry) (h : List Entry) (range : Span) (x : ℕ) →
-    e.call ≡ calls.End range → accepts e.reply ≡ true → covers range (page_of x) ≡ true →
-    value birth (e ∷ h) x ≡ cond (plain birth h (page_of x) && awaiting birth h (page_of x)) None (value birth h x)
-value_end birth e h range x c a o = rw (value_is, c, a, o) refl
+pub value_end : (birth : Birth) (e : Entry) (h : List Entry) (range : Span) (of : Option ℕ) (x : ℕ) →
+    e.call ≡ calls.End range of → accepts e.reply ≡ true → covers range (page_of x) ≡ true →
+    value birth (e ∷ h) x ≡ cond (empty_at_end birth h (named birth (calls.End range of)) (page_of x)) None (value birth h x)
+value_end birth e h range of x c a o = rw (value_is, c, a, o) refl
 
 -- a call that makes zeros neither writes nor supplies
 blanked_call : (held : ℕ → Option Access) (call : Call) (n p : ℕ) (accepted : Bool) → ((over_zero call p && accepted) || (asks_to_grow call n p && accepted)) ≡ true →
@@ -355,7 +358,7 @@ abbrev pub may_resolve : Call → Bool
 may_resolve (calls.Supply range bytes brought) = true
 may_resolve (calls.Fail range code) = true
 may_resolve (calls.Dirty range brought) = true
-may_resolve (calls.End range) = true
+may_resolve (calls.End range of) = true
 may_resolve (calls.Resize pages) = true
 may_resolve (calls.Zero range) = true
 may_resolve calls.Detach = true
@@ -366,7 +369,7 @@ pub resolves_none : (birth : Birth) (h : List Entry) (call : Call) (k : AskKind)
 resolves_none birth h (calls.Supply range bytes brought) k p m = absurd cc
 resolves_none birth h (calls.Fail range code) k p m = absurd cc
 resolves_none birth h (calls.Dirty range brought) k p m = absurd cc
-resolves_none birth h (calls.End range) k p m = absurd cc
+resolves_none birth h (calls.End range of) k p m = absurd cc
 resolves_none birth h (calls.Resize pages) k p m = absurd cc
 resolves_none birth h (calls.Zero range) k p m = absurd cc
 resolves_none birth h calls.Detach k p m = absurd cc

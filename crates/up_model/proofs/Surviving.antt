@@ -4,10 +4,10 @@ use Rattle.std.proofs.lemmas.Bool.{cases_lt, or_cases, or_from, and_parts}
 use Rattle.std.proofs.Math.Nat.{div-add-mod}
 use Rattle.up_model.specs.Attempts.{page_of, attempt}
 use Rattle.up_model.specs.Size.{size}
-use Rattle.up_model.specs.Deeds.{writes, supplies, over_supply, begins, ends, evicts, for_zero, blanks, dirties, drops, written, supplied}
-use Rattle.up_model.specs.Value.{value, there, begun, settled, or_else}
-use Rattle.up_model.specs.States.{plain, unclean, counts, empties}
-use Rattle.up_model.specs.Positions.{first_of, passes_at, beginning, ending, dirtying}
+use Rattle.up_model.specs.Deeds.{Named, NoBegin, is_named, named, writes, supplies, over_supply, begins, ends, evicts, for_zero, blanks, dirties, drops, written, supplied}
+use Rattle.up_model.specs.Value.{value, there, begun_by, settled, or_else}
+use Rattle.up_model.specs.States.{plain, unclean, counts_as, closes, empties}
+use Rattle.up_model.specs.Positions.{first_of, passes_at, beginning, beginning_as, naming, named_at, ending, dirtying}
 use Rattle.up_model.specs.Survival.{writing, writes_byte, given, WithinFrom, Kept, Stays, WroteBack, NoneBegins}
 use Rattle.up_model.specs.Legal.{Legal}
 use Rattle.up_model.specs.declared.entry.Birth.{Birth}
@@ -15,7 +15,7 @@ use Rattle.up_model.specs.declared.entry.Entry.{Entry}
 use Rattle.up_model.specs.declared.entry.Call.{Call}
 use Rattle.up_model.specs.declared.entry.Call.TheVariants.{Supply}
 use Rattle.up_model.proofs.Bools.{and_left}
-use Rattle.up_model.proofs.Equations.{begun_is, settled_is}
+use Rattle.up_model.proofs.Equations.{begun_by_is, settled_is}
 use Rattle.up_model.proofs.Presence.{value_in, there_is, bytes_stand}
 use Rattle.up_model.proofs.Reclaiming.{evicted_page}
 use Rattle.up_model.proofs.Resting.{cut_beyond}
@@ -59,12 +59,12 @@ kept_step birth e before legal p i early here stays kept x within has =
     (λ given. supply_blanks_none birth before e.who e.epoch e.call p (and_left _ _ given) e.reply) stays
     (has_byte birth before legal.0 p x within here) old)
 
--- a begin that counts for p, after which nothing dirtied it
-record Begins (birth : Birth) (h : List Entry) (p i : ℕ) : Type 0 where
+-- of these begins one that counts for p, after which nothing dirtied it
+record Begins (birth : Birth) (h : List Entry) (which : Named) (p i : ℕ) : Type 0 where
   start : ℕ
   after : i < start
   order : start < length h
-  begin : passes_at (beginning birth p) h start ≡ true
+  begin : passes_at (beginning_as birth which p) h start ≡ true
   still : (k : ℕ) → start < k → passes_at (dirtying birth p) h k ≡ false
   bytes : (k : ℕ) → start ≤ k → k ≤ length h → Kept birth h p i (first_of h k)
 
@@ -74,7 +74,11 @@ record Alive (birth : Birth) (h : List Entry) (p i : ℕ) : Type 0 where
   here : there birth h p ≡ true
   unsettled : settled birth h p ≡ false
   bytes : Kept birth h p i h
-  begins : begun birth h p ≡ true → Begins birth h p i
+  begins : (which : Named) → begun_by birth h which p ≡ true → Begins birth h which p i
+
+-- of these begins one that counts for p stands here
+abbrev BeginsAt : Birth → List Entry → ℕ → ℕ → Named → Type 0
+BeginsAt birth h p k which = passes_at (beginning_as birth which p) h k ≡ true
 
 -- one more entry changes no earlier moment
 wrote_back_more : (birth : Birth) (e : Entry) (before : List Entry) (p i : ℕ) → WroteBack birth before p i → WroteBack birth (e ∷ before) p i
@@ -85,36 +89,38 @@ wrote_back_more birth e before p i done =
       stop = done.stop;
       after = done.after;
       order = done.order;
-      begin = passes_kept (beginning birth p) e before done.start done.begin;
+      begin = subst (BeginsAt birth (e ∷ before) p done.start) (sym (said_before NoBegin (naming birth) e before done.stop high))
+          (passes_kept (beginning_as birth (named_at birth before done.stop) p) e before done.start done.begin);
       end = passes_kept (ending p) e before done.stop done.end;
       still = λ k a b. passes_before (dirtying birth p) e before k (omega arith) ∙ done.still k a b;
       bytes = λ k a b. subst (λ (now : List Entry). Kept birth (e ∷ before) p i now) (sym (first_before e before k (omega arith)))
           (kept_more birth e before p i (first_of before k) (omega arith) (done.bytes k a b));
     }
 
--- the entry is an end over p after such a begin
-wrote_back_now : (birth : Birth) (e : Entry) (before : List Entry) (p i : ℕ) → i < length before → ends e p ≡ true → Begins birth before p i → WroteBack birth (e ∷ before) p i
-wrote_back_now birth e before p i early closes since = record {
+-- the entry is an end over p after a begin that it is for
+wrote_back_now : (birth : Birth) (e : Entry) (before : List Entry) (p i : ℕ) → i < length before → ends e p ≡ true → Begins birth before (named birth e.call) p i → WroteBack birth (e ∷ before) p i
+wrote_back_now birth e before p i early ending_it since = record {
   start = since.start;
   stop = length before;
   after = since.after;
   order = since.order;
-  begin = passes_kept (beginning birth p) e before since.start since.begin;
-  end = passes_own (ending p) e before ∙ closes;
+  begin = subst (BeginsAt birth (e ∷ before) p since.start) (sym (said_own NoBegin (naming birth) e before))
+      (passes_kept (beginning_as birth (named birth e.call) p) e before since.start since.begin);
+  end = passes_own (ending p) e before ∙ ending_it;
   still = λ k a b. passes_before (dirtying birth p) e before k b ∙ since.still k a;
   bytes = λ k a b. subst (λ (now : List Entry). Kept birth (e ∷ before) p i now) (sym (first_before e before k b))
       (kept_more birth e before p i (first_of before k) early (since.bytes k a b));
 }
 
 -- a begin of before, or of now
-begins_more : (birth : Birth) (e : Entry) (before : List Entry) (p i : ℕ) → i < length before → dirties birth before e p ≡ false →
-    Kept birth (e ∷ before) p i (e ∷ before) → Begins birth before p i → Begins birth (e ∷ before) p i
-begins_more birth e before p i early kept now since =
+begins_more : (birth : Birth) (e : Entry) (before : List Entry) (which : Named) (p i : ℕ) → i < length before → dirties birth before e p ≡ false →
+    Kept birth (e ∷ before) p i (e ∷ before) → Begins birth before which p i → Begins birth (e ∷ before) which p i
+begins_more birth e before which p i early kept now since =
     let order = since.order in record {
       start = since.start;
       after = since.after;
       order = omega arith;
-      begin = passes_kept (beginning birth p) e before since.start since.begin;
+      begin = passes_kept (beginning_as birth which p) e before since.start since.begin;
       still = λ k a. ⊎_elim
           (λ low. passes_before (dirtying birth p) e before k low ∙ since.still k a)
           (λ high. ⊎_elim
@@ -130,13 +136,13 @@ begins_more birth e before p i early kept now since =
           (cases_lt (length before) k);
     }
 
-begins_now : (birth : Birth) (e : Entry) (before : List Entry) (p i : ℕ) → i < length before → counts birth before e p ≡ true →
-    Kept birth before p i before → Kept birth (e ∷ before) p i (e ∷ before) → Begins birth (e ∷ before) p i
-begins_now birth e before p i early counting old now = record {
+begins_now : (birth : Birth) (e : Entry) (before : List Entry) (which : Named) (p i : ℕ) → i < length before → counts_as birth before which e p ≡ true →
+    Kept birth before p i before → Kept birth (e ∷ before) p i (e ∷ before) → Begins birth (e ∷ before) which p i
+begins_now birth e before which p i early counting old now = record {
   start = length before;
   after = early;
   order = omega arith;
-  begin = passes_own (beginning birth p) e before ∙ counting;
+  begin = passes_own (beginning_as birth which p) e before ∙ counting;
   still = λ k a. passes_past (dirtying birth p) (e ∷ before) k (omega arith);
   bytes = λ k a b. ⊎_elim
       (λ past. subst (λ (l : List Entry). Kept birth (e ∷ before) p i l) (sym (first_all (e ∷ before) k (omega arith))) now)
@@ -147,19 +153,22 @@ begins_now birth e before p i early counting old now = record {
 }
 
 -- a mark of a begin: it was there before, or the entry counts
-begun_ways : (dirty begin zero blank old : Bool) → cond dirty false (cond begin ((not zero || blank) || old) old) ≡ true →
-    (dirty ≡ false) × (((begin && (not zero || blank)) ≡ true) ⊎ (old ≡ true))
-begun_ways true begin zero blank old is = absurd cc
-begun_ways false false zero blank old is = (refl, inr is)
-begun_ways false true zero blank old is = (refl, or_cases (not zero || blank) old is)
+begun_ways : (dirty among begin zero blank old : Bool) → cond dirty false (cond (among && begin) ((not zero || blank) || old) old) ≡ true →
+    (dirty ≡ false) × (((among && (begin && (not zero || blank))) ≡ true) ⊎ (old ≡ true))
+begun_ways true among begin zero blank old is = absurd cc
+begun_ways false false begin zero blank old is = (refl, inr is)
+begun_ways false true false zero blank old is = (refl, inr is)
+begun_ways false true true zero blank old is = (refl, or_cases (not zero || blank) old is)
 
-begins_step : (birth : Birth) (e : Entry) (before : List Entry) (p i : ℕ) → i < length before → Kept birth before p i before →
-    Kept birth (e ∷ before) p i (e ∷ before) → (begun birth before p ≡ true → Begins birth before p i) → begun birth (e ∷ before) p ≡ true → Begins birth (e ∷ before) p i
-begins_step birth e before p i early old now earlier is =
-    let ways = begun_ways (dirties birth before e p) (begins e p) (for_zero e.call) (plain birth before p) (begun birth before p) (sym (begun_is birth e before p) ∙ is) in
+begins_step : (birth : Birth) (e : Entry) (before : List Entry) (which : Named) (p i : ℕ) → i < length before → Kept birth before p i before →
+    Kept birth (e ∷ before) p i (e ∷ before) → (begun_by birth before which p ≡ true → Begins birth before which p i) →
+    begun_by birth (e ∷ before) which p ≡ true → Begins birth (e ∷ before) which p i
+begins_step birth e before which p i early old now earlier is =
+    let ways = begun_ways (dirties birth before e p) (is_named which e.reply) (begins e p) (for_zero e.call) (plain birth before p) (begun_by birth before which p)
+    (sym (begun_by_is birth e before which p) ∙ is) in
     ⊎_elim
-    (λ counting. begins_now birth e before p i early counting old now)
-    (λ begun. begins_more birth e before p i early ways.0 now (earlier begun))
+    (λ counting. begins_now birth e before which p i early counting old now)
+    (λ begun. begins_more birth e before which p i early ways.0 now (earlier begun))
     ways.1
 
 -- an unsettled page isn't taken away, unless it leaves the object
@@ -192,19 +201,19 @@ not_emptied true true false run apart = refl
 not_emptied true true true run apart = apart
 
 alive_step : (birth : Birth) (e : Entry) (before : List Entry) → Legal birth (e ∷ before) → (p i : ℕ) → p < size birth (e ∷ before) →
-    (ends e p && begun birth before p) ≡ false → Alive birth before p i → Alive birth (e ∷ before) p i
+    (ends e p && closes birth before e p) ≡ false → Alive birth before p i → Alive birth (e ∷ before) p i
 alive_step birth e before legal p i low apart was =
     let early = was.early in
     let stays : (drops birth before e p || empties birth before e p) ≡ false =
-    or_from _ _ (undropped birth e before legal p was.unsettled low) (not_emptied (ends e p) (plain birth before p) (unclean birth before p) (begun birth before p) apart) in
+    or_from _ _ (undropped birth e before legal p was.unsettled low) (not_emptied (ends e p) (plain birth before p) (unclean birth before p) (closes birth before e p) apart) in
     let now : Kept birth (e ∷ before) p i (e ∷ before) = kept_step birth e before legal p i was.early was.here stays was.bytes in
     record {
       early = omega arith;
       here = there_is birth e before legal p ∙
           stays_here (writes before e p) (supplies e p) (blanks birth before e p) (drops birth before e p || empties birth before e p) (there birth before p) stays was.here;
-      unsettled = settled_is birth e before p ∙ stays_unsettled (dirties birth before e p) (ends e p) (begun birth before p) (settled birth before p) apart was.unsettled;
+      unsettled = settled_is birth e before p ∙ stays_unsettled (dirties birth before e p) (ends e p) (closes birth before e p) (settled birth before p) apart was.unsettled;
       bytes = now;
-      begins = begins_step birth e before p i was.early was.bytes now was.begins;
+      begins = λ which. begins_step birth e before which p i was.early was.bytes now (was.begins which);
     }
 
 -- just after the write
@@ -224,7 +233,7 @@ alive_now birth e before legal p wrote = record {
       let at : writes before e (page_of x) ≡ true = subst (λ (q : ℕ). writes before e q ≡ true) (sym within) wrote in
       rw (value_in birth e before p x within, wrote)
       (own_byte (writes before e (page_of x)) (written (attempt before e) x) (value birth before x) (given birth before x) _ at said);
-  begins = λ is. let wrong : false ≡ true = sym (begun_is birth e before p ∙ rw wrote refl) ∙ is in absurd cc;
+  begins = λ which is. let wrong : false ≡ true = sym (begun_by_is birth e before which p ∙ rw wrote refl) ∙ is in absurd cc;
 }
 
 -- a page within the size from i on, with one entry less
@@ -242,8 +251,8 @@ within_now birth h p i early within = subst (λ (l : List Entry). p < size birth
 goes_on : (birth : Birth) (e : Entry) (before : List Entry) → Legal birth (e ∷ before) → (p i : ℕ) → i < length before → p < size birth (e ∷ before) →
     Alive birth before p i ⊎ WroteBack birth before p i → Alive birth (e ∷ before) p i ⊎ WroteBack birth (e ∷ before) p i
 goes_on birth e before legal p i early low (inl alive) =
-    elim (ends e p && begun birth before p) as (λ b. (ends e p && begun birth before p) ≡ b → Alive birth (e ∷ before) p i ⊎ WroteBack birth (e ∷ before) p i) [
-      | true ↦ λ q. let both = and_parts (ends e p) _ q in inr (wrote_back_now birth e before p i early both.0 (alive.begins both.1))
+    elim (ends e p && closes birth before e p) as (λ b. (ends e p && closes birth before e p) ≡ b → Alive birth (e ∷ before) p i ⊎ WroteBack birth (e ∷ before) p i) [
+      | true ↦ λ q. let both = and_parts (ends e p) _ q in inr (wrote_back_now birth e before p i early both.0 (alive.begins (named birth e.call) both.1))
       | false ↦ λ q. inl (alive_step birth e before legal p i low q alive)
     ] refl
 goes_on birth e before legal p i early low (inr done) = inr (wrote_back_more birth e before p i done)
@@ -272,9 +281,26 @@ survives birth h legal p i wrote within = ⊎_elim
     (λ done. inr done)
     (alive_or_done birth h legal p i wrote within)
 
+-- where no begin counts, none of these does
+unbegun_as : (birth : Birth) (h : List Entry) (which : Named) (p k : ℕ) → passes_at (beginning birth p) h k ≡ false → passes_at (beginning_as birth which p) h k ≡ false
+unbegun_as birth [] which p k none = refl
+unbegun_as birth (e ∷ before) which p k none = ⊎_elim
+    (λ early. passes_before (beginning_as birth which p) e before k early ∙ unbegun_as birth before which p k (sym (passes_before (beginning birth p) e before k early) ∙ none))
+    (λ late. ⊎_elim
+    (λ past. passes_past (beginning_as birth which p) (e ∷ before) k (omega arith))
+    (λ reach. let same : length before ≡ k = omega arith in
+    subst (λ (n : ℕ). passes_at (beginning birth p) (e ∷ before) n ≡ false → passes_at (beginning_as birth which p) (e ∷ before) n ≡ false) same
+    (λ here. passes_own (beginning_as birth which p) e before ∙ none_of (is_named which e.reply) _ (sym (passes_own (beginning birth p) e before) ∙ here)) none)
+    (cases_lt (length before) k))
+    (cases_lt k (length before))
+  where
+    none_of : (among counting : Bool) → counting ≡ false → (among && counting) ≡ false
+    none_of true counting q = q
+    none_of false counting q = refl
+
 pub stays_unbegun : (birth : Birth) (h : List Entry) → Legal birth h → (p i : ℕ) → passes_at (writing p) h i ≡ true → WithinFrom birth h p i →
     NoneBegins birth h p i → Stays birth h p i
 stays_unbegun birth h legal p i wrote within none = ⊎_elim
     (λ stays. stays)
-    (λ done. let wrong : true ≡ false = sym done.begin ∙ none done.start done.after in absurd cc)
+    (λ done. let wrong : true ≡ false = sym done.begin ∙ unbegun_as birth h (named_at birth h done.stop) p done.start (none done.start done.after) in absurd cc)
     (survives birth h legal p i wrote within)

@@ -1,23 +1,22 @@
 -- What each accepted call makes of a page that it is on: the facts that an object's changes ask for.
-use Rattle.std.proofs.Common.{◌≡◌, ℕ, ◌+◌, ◌-◌, ◌*◌, ◌<◌, ◌≤◌, ◌==◌, ◌&&◌, ◌||◌, not, Bool, true, false, cond, Option, Some, None, is_some, List, ◌∷◌, length, suc, slice_get, get_or, refl, ap, sym, ◌∙◌, subst, arith, nat_le, nat_lt}
+use Rattle.std.proofs.Common.{◌≡◌, ℕ, ◌+◌, ◌-◌, ◌*◌, ◌<◌, ◌≤◌, ◌==◌, ◌&&◌, ◌||◌, not, Bool, true, false, cond, Option, Some, None, is_some, List, ◌∷◌, length, slice_get, get_or, refl, ap, sym, ◌∙◌, subst, arith, nat_le}
 use Rattle.std.proofs.lemmas.Bool.{or_parts, or_right, and_parts}
 use Rattle.std.proofs.lemmas.Bool.Decides.{nat_tests}
 use Rattle.std.proofs.lemmas.Option.{slice_get-get_or}
 use Rattle.up_num.specs.Span.{Span, covers}
 use Rattle.up_num.specs.declared.pages.PageNo.{PageNo}
 use Rattle.up_num.specs.declared.answers.PageState.{PageState}
-use Rattle.up_num.specs.declared.answers.PageState.TheVariants.{Clean, Dirty, AwaitingClean}
 use Rattle.up_model.specs.Attempts.{Access, page_of, accepts, is_bytes, is_done, attempt, attempt_of, parked}
 use Rattle.up_model.specs.Size.{size, asks_to_grow, asks_to_cut, cuts}
 use Rattle.up_model.specs.Deeds.{writes_in, reads_in, writes, reads, is_always, over_supply, over_pin, over_unpin, over_always, over_cold, of_borrow, reclaims, zeroes, hints_always, hints_cold, says_evicted, drops, evicts, moves, borrows}
 use Rattle.up_model.specs.Value.{value, there, marked, settled, begun, or_else}
-use Rattle.up_model.specs.States.{plain, empties}
+use Rattle.up_model.specs.States.{closing}
 use Rattle.up_model.specs.Pins.{pins, always, loaned}
 use Rattle.up_model.specs.Use.{uses, last_use, newest_epoch, generation, cold_since}
 use Rattle.up_model.specs.Legal.{Legal}
 use Rattle.up_model.specs.Concerns.{is_touch}
-use Rattle.up_model.specs.Looks.{PageLook, Missing, Zeros, Framed, state_by, look_by, look_of, is_present, has_frame, with_state, begun_look, ended_look, dirtied_look, pinned_look}
-use Rattle.up_model.specs.Changes.{SameBytes, SameMarks, SameUse, FreshUse, Turns, SamePage, SetsState, Reframes, Uses, Fills, over_byte, Writes, PinsOne, UnpinsOne, Hints, Blanks, Goes, Vanishes}
+use Rattle.up_model.specs.Looks.{PageLook, Missing, Framed, state_by, look_by, look_of, is_present, has_frame, begun_look, ended_look, dirtied_look, pinned_look}
+use Rattle.up_model.specs.Changes.{SameMarks, FreshUse, Turns, SamePage, Reframes, Uses, Fills, over_byte, Writes, PinsOne, UnpinsOne, Hints, Blanks, Goes, LetsDirty, Vanishes}
 use Rattle.up_model.specs.declared.entry.Birth.{Birth}
 use Rattle.up_model.specs.declared.entry.Brought.{Brought}
 use Rattle.up_model.specs.declared.entry.Entry.{Entry}
@@ -27,14 +26,14 @@ use Rattle.up_model.specs.declared.entry.Call.{Call}
 use Rattle.up_model.specs.declared.entry.Call.TheVariants as calls
 use Rattle.up_model.specs.declared.entry.Reply.{Reply}
 use Rattle.up_model.specs.declared.entry.Reply.TheVariants as answer
-use Rattle.up_model.proofs.Bools.{and_left, and_right, and_false}
+use Rattle.up_model.proofs.Bools.{and_left}
 use Rattle.up_model.proofs.Equations.{value_is, marked_is, begun_is, settled_is}
 use Rattle.up_model.proofs.Steps.{Idle, idle_byte, idle_there, idle_marked, idle_begun, idle_settled, idle_kept, keeps_pages, page_start, page_inside, value_supply, marked_supply, begun_supply, settled_supply, there_supply, value_dirty, value_begin, value_pin, value_end, value_drop, write_blanks_none}
 use Rattle.up_model.proofs.Effects.{PageIs, after_begin, after_end, after_dirty, after_pin, after_zero, after_growth, after_cut, after_evict, after_vacate, after_write, value_zero, value_growth, value_write}
 use Rattle.up_model.proofs.Presence.{bytes_stand}
 use Rattle.up_model.proofs.Passed.{covers_bounds}
 use Rattle.up_model.proofs.Resting.{absent_settled, loaned_page}
-use Rattle.up_model.proofs.Quiet.{loan_kept, always_kept}
+use Rattle.up_model.proofs.Quiet.{loan_kept, always_kept, idle_undirtied}
 
 none_so : (v : Option ℕ) → is_some v ≡ false → v ≡ None
 none_so None q = refl
@@ -57,21 +56,31 @@ pinned_by true false s b l = refl
 grown_uncut : (pages n p : ℕ) → asks_to_grow (calls.Resize pages) n p ≡ true → asks_to_cut (calls.Resize pages) n p ≡ false
 grown_uncut pages n p g = grind (arith, nat_tests)
 
--- what a page's tests are, where it is zeros that await their writeback
-emptied_byte : (here mark rest run loan : Bool) (old : Option ℕ) → look_by here mark rest run loan ≡ Zeros AwaitingClean → cond ((here && mark) && ((here && not rest) && run)) None old ≡ None
-emptied_byte false m s b l old was = absurd cc
-emptied_byte true false s b l old was = absurd cc
-emptied_byte true true true b l old was = absurd cc
-emptied_byte true true false false l old was = absurd cc
-emptied_byte true true false true l old was = refl
+cut_grows_none : (pages n p : ℕ) → asks_to_cut (calls.Resize pages) n p ≡ true → asks_to_grow (calls.Resize pages) n p ≡ false
+cut_grows_none pages n p t = grind (arith, nat_tests)
 
-kept_byte : (here mark rest run loan : Bool) (old : Option ℕ) → is_present (ended_look (look_by here mark rest run loan)) ≡ is_present (look_by here mark rest run loan) →
-    cond ((here && mark) && ((here && not rest) && run)) None old ≡ old
-kept_byte false m s b l old stays = refl
-kept_byte true false s b l old stays = refl
-kept_byte true true true b l old stays = refl
-kept_byte true true false false l old stays = refl
-kept_byte true true false true l old stays = absurd cc
+-- what a page's tests are, where an end that is for it or not takes it away
+emptied_byte : (here mark rest run loan ended : Bool) (old : Option ℕ) → is_present (look_by here mark rest run loan) ≡ true →
+    is_present (ended_look ended (look_by here mark rest run loan)) ≡ false → cond ((here && mark) && ((here && not rest) && ended)) None old ≡ None
+emptied_byte false m s b l d old was gone = absurd cc
+emptied_byte true m s b l false old was gone = let wrong : true ≡ false = sym was ∙ gone in absurd cc
+emptied_byte true false s b l true old was gone = absurd cc
+emptied_byte true true true b l true old was gone = absurd cc
+emptied_byte true true false b l true old was gone = refl
+
+kept_byte : (here mark rest run loan ended : Bool) (old : Option ℕ) →
+    is_present (ended_look ended (look_by here mark rest run loan)) ≡ is_present (look_by here mark rest run loan) →
+    cond ((here && mark) && ((here && not rest) && ended)) None old ≡ old
+kept_byte false m s b l d old stays = refl
+kept_byte true false s b l d old stays = refl
+kept_byte true true true b l d old stays = refl
+kept_byte true true false b l false old stays = refl
+kept_byte true true false true l true old stays = absurd cc
+kept_byte true true false false l true old stays = absurd cc
+
+absent_look : (look : PageLook) → is_present look ≡ false → look ≡ Missing
+absent_look Missing gone = refl
+absent_look _ gone = absurd cc
 
 unlent : (here mark rest run loan : Bool) (state : PageState) (lent : Bool) → look_by here mark rest run loan ≡ Framed state lent → look_by here mark rest run false ≡ Framed state false
 unlent false m s b l state lent was = absurd cc
@@ -132,76 +141,83 @@ no_byte birth h legal p i lt gone = none_so (value birth h (4096 * p + i)) (byte
 
 -- A begin.
 
-begun_by : (only_zero here mark rest run loan : Bool) → look_by here mark rest ((not only_zero || (here && mark)) || run) loan ≡ begun_look only_zero (look_by here mark rest run loan)
-begun_by o false m s b l = refl
-begun_by true true true true b l = refl
-begun_by true true true false true l = refl
-begun_by true true true false false l = refl
-begun_by false true true true b l = refl
-begun_by false true true false true l = refl
-begun_by false true true false false l = refl
-begun_by true true false s b l = refl
-begun_by false true false true b l = refl
-begun_by false true false false true l = refl
-begun_by false true false false false l = refl
+begins_by : (only_zero here mark rest run loan : Bool) → look_by here mark rest ((not only_zero || (here && mark)) || run) loan ≡ begun_look only_zero (look_by here mark rest run loan)
+begins_by o false m s b l = refl
+begins_by true true true true b l = refl
+begins_by true true true false true l = refl
+begins_by true true true false false l = refl
+begins_by false true true true b l = refl
+begins_by false true true false true l = refl
+begins_by false true true false false l = refl
+begins_by true true false s b l = refl
+begins_by false true false true b l = refl
+begins_by false true false false true l = refl
+begins_by false true false false false l = refl
 
 pub begin_turns : (birth : Birth) (e : Entry) (h : List Entry) (range : Span) (only_zero : Bool) (p : ℕ) → e.call ≡ calls.Begin range only_zero → accepts e.reply ≡ true → covers range p ≡ true →
     Turns birth e h p (begun_look only_zero (look_of birth h p))
 begin_turns birth e h range only_zero p c a o = record {
-  looks = look_by_parts birth (e ∷ h) p _ _ _ _ _ (after_begin birth e h range only_zero p c a o) (rw c refl) ∙ begun_by only_zero (there birth h p) (marked birth h p) (settled birth h p) (begun birth h p) (loaned birth h p);
+  looks = look_by_parts birth (e ∷ h) p _ _ _ _ _ (after_begin birth e h range only_zero p c a o) (rw c refl) ∙ begins_by only_zero (there birth h p) (marked birth h p) (settled birth h p) (begun birth h p) (loaned birth h p);
   bytes = λ i lt. value_begin birth e h range only_zero (4096 * p + i) c;
   marks = record { pinned = rw c refl; protected = rw c refl };
   usage = record { used = rw c refl; aged = rw c refl; chilled = rw c refl };
+  undirtied = rw c refl;
 }
 
 -- An end.
 
-ended_by : (here mark rest run loan : Bool) → look_by (not ((here && mark) && ((here && not rest) && run)) && here) mark (run || rest) run loan ≡ ended_look (look_by here mark rest run loan)
-ended_by false m s b l = refl
-ended_by true true true true l = refl
-ended_by true true true false l = refl
-ended_by true true false true l = refl
-ended_by true true false false l = refl
-ended_by true false true true l = refl
-ended_by true false true false l = refl
-ended_by true false false true l = refl
-ended_by true false false false l = refl
+ended_by : (here mark rest run loan ended : Bool) →
+    look_by (not ((here && mark) && ((here && not rest) && ended)) && here) mark (ended || rest) run loan ≡ ended_look ended (look_by here mark rest run loan)
+ended_by false m s b l true = refl
+ended_by false m s b l false = refl
+ended_by true true true b l false = refl
+ended_by true true false b l false = refl
+ended_by true true true b l true = refl
+ended_by true true false true l true = refl
+ended_by true true false false l true = refl
+ended_by true false s b l false = refl
+ended_by true false s b l true = refl
 
-end_looks : (birth : Birth) (e : Entry) (h : List Entry) (range : Span) (p : ℕ) → e.call ≡ calls.End range → accepts e.reply ≡ true → covers range p ≡ true →
-    look_of birth (e ∷ h) p ≡ ended_look (look_of birth h p)
-end_looks birth e h range p c a o =
-    look_by_parts birth (e ∷ h) p _ _ _ _ _ (after_end birth e h range p c a o) (rw c refl)
-    ∙ ap (λ b. look_by (not b && there birth h p) (marked birth h p) (begun birth h p || settled birth h p) (begun birth h p) (loaned birth h p)) (rw (c, a, o) refl)
-    ∙ ended_by (there birth h p) (marked birth h p) (settled birth h p) (begun birth h p) (loaned birth h p)
+end_looks : (birth : Birth) (e : Entry) (h : List Entry) (range : Span) (of : Option ℕ) (p : ℕ) → e.call ≡ calls.End range of → accepts e.reply ≡ true → covers range p ≡ true →
+    look_of birth (e ∷ h) p ≡ ended_look (closing birth h range of p) (look_of birth h p)
+end_looks birth e h range of p c a o =
+    look_by_parts birth (e ∷ h) p _ _ _ _ _ (after_end birth e h range of p c a o) (rw c refl)
+    ∙ ap (λ b. look_by (not b && there birth h p) (marked birth h p) (closing birth h range of p || settled birth h p) (begun birth h p) (loaned birth h p)) (rw (c, a, o) refl)
+    ∙ ended_by (there birth h p) (marked birth h p) (settled birth h p) (begun birth h p) (loaned birth h p) (closing birth h range of p)
 
--- the page is plain and awaiting, so it goes
-pub end_goes : (birth : Birth) (e : Entry) (h : List Entry) (range : Span) (p : ℕ) → e.call ≡ calls.End range → accepts e.reply ≡ true → covers range p ≡ true →
-    look_of birth h p ≡ Zeros AwaitingClean → Goes birth e h p
-end_goes birth e h range p c a o was = record {
-  looks = end_looks birth e h range p c a o ∙ ap ended_look was;
-  bytes = λ i lt. value_end birth e h range (4096 * p + i) c a (rw (page_inside p i lt) o) ∙ rw (page_inside p i lt) (emptied_byte (there birth h p) (marked birth h p) (settled birth h p) (begun birth h p) (loaned birth h p) _ was);
+-- the page is there, and the end takes it away: an unclean zero page, where the end is for it
+pub end_goes : (birth : Birth) (e : Entry) (h : List Entry) (range : Span) (of : Option ℕ) (p : ℕ) → e.call ≡ calls.End range of → accepts e.reply ≡ true → covers range p ≡ true →
+    is_present (look_of birth h p) ≡ true → is_present (ended_look (closing birth h range of p) (look_of birth h p)) ≡ false → Goes birth e h p
+end_goes birth e h range of p c a o was gone = record {
+  looks = end_looks birth e h range of p c a o ∙ absent_look (ended_look (closing birth h range of p) (look_of birth h p)) gone;
+  bytes = λ i lt. value_end birth e h range of (4096 * p + i) c a (rw (page_inside p i lt) o)
+      ∙ rw (page_inside p i lt) (emptied_byte (there birth h p) (marked birth h p) (settled birth h p) (begun birth h p) (loaned birth h p) (closing birth h range of p) _ was gone);
   marks = record { pinned = rw c refl; protected = rw c refl };
+  undirtied = rw c refl;
 }
 
--- it stays where it isn't
-pub end_turns : (birth : Birth) (e : Entry) (h : List Entry) (range : Span) (p : ℕ) → e.call ≡ calls.End range → accepts e.reply ≡ true → covers range p ≡ true →
-    is_present (ended_look (look_of birth h p)) ≡ is_present (look_of birth h p) → Turns birth e h p (ended_look (look_of birth h p))
-end_turns birth e h range p c a o stays = record {
-  looks = end_looks birth e h range p c a o;
-  bytes = λ i lt. value_end birth e h range (4096 * p + i) c a (rw (page_inside p i lt) o) ∙ rw (page_inside p i lt) (kept_byte (there birth h p) (marked birth h p) (settled birth h p) (begun birth h p) (loaned birth h p) _ stays);
+-- else it stays, or wasn't there
+pub end_turns : (birth : Birth) (e : Entry) (h : List Entry) (range : Span) (of : Option ℕ) (p : ℕ) → e.call ≡ calls.End range of → accepts e.reply ≡ true → covers range p ≡ true →
+    is_present (ended_look (closing birth h range of p) (look_of birth h p)) ≡ is_present (look_of birth h p) → Turns birth e h p (ended_look (closing birth h range of p) (look_of birth h p))
+end_turns birth e h range of p c a o stays = record {
+  looks = end_looks birth e h range of p c a o;
+  bytes = λ i lt. value_end birth e h range of (4096 * p + i) c a (rw (page_inside p i lt) o)
+      ∙ rw (page_inside p i lt) (kept_byte (there birth h p) (marked birth h p) (settled birth h p) (begun birth h p) (loaned birth h p) (closing birth h range of p) _ stays);
   marks = record { pinned = rw c refl; protected = rw c refl };
   usage = record { used = rw c refl; aged = rw c refl; chilled = rw c refl };
+  undirtied = rw c refl;
 }
 
 -- Leave to make it dirty.
 
-pub dirty_turns : (birth : Birth) (e : Entry) (h : List Entry) (range : Span) (brought : Brought) (p : ℕ) → e.call ≡ calls.Dirty range brought → accepts e.reply ≡ true → covers range p ≡ true →
-    Turns birth e h p (dirtied_look (look_of birth h p))
-dirty_turns birth e h range brought p c a o = record {
+pub dirty_lets : (birth : Birth) (e : Entry) (h : List Entry) (range : Span) (brought : Brought) (p : ℕ) → e.call ≡ calls.Dirty range brought → accepts e.reply ≡ true → covers range p ≡ true →
+    LetsDirty birth e h p
+dirty_lets birth e h range brought p c a o = record {
   looks = look_by_parts birth (e ∷ h) p _ _ _ _ _ (after_dirty birth e h range brought p c a o) (rw (c, a, o) refl) ∙ dirtied_by (there birth h p) (marked birth h p) (settled birth h p) (begun birth h p) (loaned birth h p);
   bytes = λ i lt. value_dirty birth e h range brought (4096 * p + i) c;
   marks = record { pinned = rw c refl; protected = rw c refl };
   usage = record { used = rw c refl; aged = rw c refl; chilled = rw c refl };
+  dirtied = rw (c, a, o) refl;
 }
 
 -- A pin.
@@ -216,6 +232,7 @@ pin_one birth e h range brought p c a o here few = record {
   pinned = rw (c, a, o) refl;
   protected = rw c refl;
   fresh = record { used = rw (c, a, o) refl; aged = rw (c, a, o) refl; chilled = rw (c, a, o) refl };
+  undirtied = rw c refl;
 }
 
 -- An unpin.
@@ -229,6 +246,7 @@ unpin_one birth e h range p c a o some = record {
   pinned = rw (c, a, o) refl;
   protected = rw c refl;
   usage = record { used = rw c refl; aged = rw c refl; chilled = rw c refl };
+  undirtied = rw c refl;
 }
 
 -- A hint.
@@ -247,6 +265,7 @@ hint_marks birth e h range Always p c a o = record {
   used = rw c refl;
   aged = rw c refl;
   chilled = rw c refl;
+  undirtied = rw c refl;
 }
 hint_marks birth e h range Cold p c a o = record {
   looks = hint_looks birth e h range Cold p c;
@@ -256,6 +275,7 @@ hint_marks birth e h range Cold p c a o = record {
   used = rw c refl;
   aged = rw c refl;
   chilled = rw (c, a, o) refl;
+  undirtied = rw c refl;
 }
 
 -- A zero call, and a growth.
@@ -265,6 +285,7 @@ zero_blanks birth e h range p c a o = record {
   looks = look_by_parts birth (e ∷ h) p _ _ _ _ false (after_zero birth e h range p c a o) (rw (c, a, o) refl);
   bytes = λ i lt. value_zero birth e h range (4096 * p + i) c a (rw (page_inside p i lt) o);
   marks = record { pinned = rw c refl; protected = rw c refl };
+  dirtied = rw (c, a, o) refl;
 }
 
 pub growth_blanks : (birth : Birth) (e : Entry) (h : List Entry) (pages p : ℕ) → e.call ≡ calls.Resize pages → accepts e.reply ≡ true → asks_to_grow (calls.Resize pages) (size birth h) p ≡ true →
@@ -273,6 +294,7 @@ growth_blanks birth e h pages p c a g = let uncut = grown_uncut pages (size birt
   looks = λ i. look_by ((after_growth birth e h pages p c a g).here i) ((after_growth birth e h pages p c a g).mark i) ((after_growth birth e h pages p c a g).settle i) ((after_growth birth e h pages p c a g).begin i) (loaned birth (e ∷ h) p);
   bytes = λ i lt. value_growth birth e h pages (4096 * p + i) c a (rw (page_inside p i lt) g);
   marks = record { pinned = rw c refl; protected = rw (c, uncut) refl };
+  dirtied = rw (c, a, g) refl;
 }
 
 -- A cut of a page that has no pins.
@@ -284,6 +306,7 @@ cut_vanishes birth e h pages p c a t none = record {
   bytes = λ i lt. value_drop birth e h (4096 * p + i) (rw (page_inside p i lt, c, a, t) refl);
   unpinned = rw c none;
   unprotected = rw (c, a, t) refl;
+  undirtied = let stays = cut_grows_none pages (size birth h) p t in rw (c, stays) refl;
 }
 
 -- An evict or a vacate that lists it as evicted.
@@ -293,6 +316,7 @@ evict_goes birth e h limit most p c l = record {
   looks = λ i. look_by ((after_evict birth e h limit most p c l).here i) (marked birth (e ∷ h) p) (settled birth (e ∷ h) p) (begun birth (e ∷ h) p) (loaned birth (e ∷ h) p);
   bytes = λ i lt. value_drop birth e h (4096 * p + i) (rw (page_inside p i lt) (or_left (evicts e p) (cuts birth h e p) l));
   marks = record { pinned = rw c refl; protected = rw c refl };
+  undirtied = rw c refl;
 }
 
 pub vacate_goes : (birth : Birth) (e : Entry) (h : List Entry) (brought : Brought) (p : ℕ) → e.call ≡ calls.Vacate brought → evicts e p ≡ true → Goes birth e h p
@@ -300,6 +324,7 @@ vacate_goes birth e h brought p c l = record {
   looks = λ i. look_by ((after_vacate birth e h brought p c l).here i) (marked birth (e ∷ h) p) (settled birth (e ∷ h) p) (begun birth (e ∷ h) p) (loaned birth (e ∷ h) p);
   bytes = λ i lt. value_drop birth e h (4096 * p + i) (rw (page_inside p i lt) (or_left (evicts e p) (cuts birth h e p) l));
   marks = record { pinned = rw c refl; protected = rw c refl };
+  undirtied = rw c refl;
 }
 
 -- a page that a vacate puts under another frame
@@ -314,6 +339,7 @@ vacate_reframes birth e h brought p state loan c m l was = record {
     bytes = λ i lt. rw (value_is, page_inside p i lt, l, c) refl;
     marks = record { pinned = rw c refl; protected = rw c refl };
     usage = record { used = rw c refl; aged = rw c refl; chilled = rw c refl };
+    undirtied = rw c refl;
   };
 }
 
@@ -330,6 +356,7 @@ borrow_reframes birth e h page brought p state loan c b was = record {
     bytes = λ i lt. rw (value_is, page_inside p i lt, c) refl;
     marks = record { pinned = rw c refl; protected = rw c refl };
     usage = record { used = rw c refl; aged = rw c refl; chilled = rw c refl };
+    undirtied = rw c refl;
   };
 }
 
@@ -392,6 +419,7 @@ read_uses birth e h p is =
       bytes = λ i lt. idle_byte birth e h p i lt idle;
       marks = touch_marks birth e h p touch idle.no_drop;
       fresh = used_fresh birth e h p (or_left (reads h e p) _ is) (rw by.unchills refl);
+      undirtied = idle_undirtied birth e h p idle;
     }
 
 -- A write that is done.
@@ -436,6 +464,7 @@ write_writes birth e h p a at new attempted brings place near done present =
       bytes = λ i lt. value_write birth e h (4096 * p + i) (rw (page_inside p i lt) is) ∙ rw (attempted, brings) (over_is p at i new a.off (value birth h (4096 * p + i)) place);
       marks = touch_marks birth e h p touch kept;
       fresh = used_fresh birth e h p (or_right (reads h e p) _ (or_left (writes h e p) _ is)) (rw by.unchills refl);
+      dirtied = or_left (writes h e p) _ is;
     }
 
 -- A supply.
@@ -458,6 +487,7 @@ supply_fills birth e h range bytes brought p given legal c a o low whole gone sa
           ∙ rw (no_byte birth h legal p i lt absent) (given_byte range bytes p i given bounds.0 bounds.1 whole lt (same i lt));
       marks = record { pinned = rw c refl; protected = rw c refl };
       fresh = used_fresh birth e h p (supply_used birth e h range bytes brought p c a o absent) (rw c refl);
+      undirtied = rw c refl;
     }
 
 -- where it was there
@@ -476,4 +506,5 @@ supply_keeps birth e h range bytes brought p legal c a o present =
       bytes = kept;
       marks = record { pinned = rw c refl; protected = rw c refl };
       usage = record { used = rw (c, a, o, here) refl; aged = rw (c, a, o, here) refl; chilled = rw (c, a, o, here) refl };
+      undirtied = rw c refl;
     }

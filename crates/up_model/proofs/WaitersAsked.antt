@@ -99,22 +99,22 @@ entry_waits birth e before legal a tried is =
     call_waits birth before e.who e.epoch e.call a tried (subst (λ (r : Reply). is_blocked r ≡ true) legal.2 is)
 
 -- an access ends in its page or a later one
-attempt_ends : (before : List Entry) (who : ℕ) (call : Call) (a : Access) → ((t : ℕ) (x : Access) → parked before t ≡ Some x → nat_le (page_of x.off) x.last ≡ true) →
-    proper before who call ≡ true → attempt_of (parked before) call ≡ Some a → nat_le (page_of a.off) a.last ≡ true
-attempt_ends before who (Read piece last brought) a held p is =
+attempt_ends : (birth : Birth) (before : List Entry) (who : ℕ) (call : Call) (a : Access) → ((t : ℕ) (x : Access) → parked before t ≡ Some x → nat_le (page_of x.off) x.last ≡ true) →
+    proper birth before who call ≡ true → attempt_of (parked before) call ≡ Some a → nat_le (page_of a.off) a.last ≡ true
+attempt_ends birth before who (Read piece last brought) a held p is =
     let same : record { off = piece.off; len = piece.len; last = last.0; bytes = None } ≡ a = cc in
     subst (λ (x : Access). nat_le (page_of x.off) x.last ≡ true) same (and_right (within_page piece.off piece.len) _ (and_left _ _ p))
-attempt_ends before who (Write off bytes last brought) a held p is =
+attempt_ends birth before who (Write off bytes last brought) a held p is =
     let same : record { off = off; len = length bytes; last = last.0; bytes = Some bytes } ≡ a = cc in
     subst (λ (x : Access). nat_le (page_of x.off) x.last ≡ true) same (and_right (within_page off (length bytes)) _ (and_left _ _ p))
-attempt_ends before who (Retry ticket brought) a held p is = held ticket a is
-attempt_ends before who _ a held p is = absurd cc
+attempt_ends birth before who (Retry ticket brought) a held p is = held ticket a is
+attempt_ends birth before who _ a held p is = absurd cc
 
 pub parked_ends : (birth : Birth) (h : List Entry) → Legal birth h → (t : ℕ) (a : Access) → parked h t ≡ Some a → nat_le (page_of a.off) a.last ≡ true
 parked_ends birth [] legal t a is = absurd cc
 parked_ends birth (e ∷ before) legal t a is =
     elim (blocks e.reply t) as (λ b. cond b (attempt_of (parked before) e.call) (parked before t) ≡ Some a → nat_le (page_of a.off) a.last ≡ true) [
-      | true ↦ λ here. attempt_ends before e.who e.call a (parked_ends birth before legal.0) legal.1 here
+      | true ↦ λ here. attempt_ends birth before e.who e.call a (parked_ends birth before legal.0) legal.1 here
       | false ↦ λ earlier. parked_ends birth before legal.0 t a earlier
     ] is
 
@@ -146,8 +146,8 @@ pub wants_some : (birth : Birth) (e : Entry) (before : List Entry) → Legal bir
     0 < (want birth before a).count
 wants_some birth e before legal a tried is =
     let waiting = entry_waits birth e before legal a tried is in
-    let inside = attempt_within before e.who e.call a (parked_within birth before legal.0) legal.1 tried in
-    let ends = attempt_ends before e.who e.call a (parked_ends birth before legal.0) legal.1 tried in
+    let inside = attempt_within birth before e.who e.call a (parked_within birth before legal.0) legal.1 tried in
+    let ends = attempt_ends birth before e.who e.call a (parked_ends birth before legal.0) legal.1 tried in
     run_some (lacks birth before (kind_of birth before a)) (page_of a.off) _ (room_for_one a.off a.len a.last (size birth before) inside waiting.fits ends) waiting.lacking
 
 blocks_blocked : (r : Reply) (t : ℕ) → blocks r t ≡ true → is_blocked r ≡ true

@@ -8,6 +8,7 @@ use Rattle.up_num.specs.declared.answers.Outcome.{Outcome}
 use Rattle.up_num.specs.declared.answers.Outcome.TheVariants.{Waiting, Freed, Failed, Detached as DetachedOutcome, Shrunk}
 use Rattle.up_model.specs.Attempts.{Access, page_of, accepts, is_blocked, attempt}
 use Rattle.up_model.specs.Size.{size, asks_to_cut}
+use Rattle.up_model.specs.Deeds.{named}
 use Rattle.up_model.specs.Value.{there}
 use Rattle.up_model.specs.States.{dirty, empty_at_end}
 use Rattle.up_model.specs.Roles.{detaches}
@@ -44,7 +45,7 @@ wanted birth before e = cond (is_blocked e.reply) (option_map (want birth before
 abbrev pub resolves : Birth → List Entry → Call → AskKind → ℕ → Outcome
 resolves birth h (Supply range bytes brought) ReadAsk p = cond (covers range p) Freed Waiting
 resolves birth h (Dirty range brought) DirtyAsk p = cond (covers range p) Freed Waiting
-resolves birth h (End range) DirtyAsk p = cond (covers range p && empty_at_end birth h p) Freed Waiting
+resolves birth h (End range of) DirtyAsk p = cond (covers range p && empty_at_end birth h (named birth (End range of)) p) Freed Waiting
 resolves birth h (Zero range) k p = cond (covers range p) Freed Waiting
 resolves birth h (Fail range code) k p = cond (covers range p) (Failed code) Waiting
 resolves birth h (Resize pages) k p = cond (asks_to_cut (Resize pages) (size birth h) p) Shrunk Waiting

@@ -1,11 +1,12 @@
 -- What an entry makes of one page, of those who wait, and of the rest of an object: facts on the entry and the journal before it.
-use Rattle.std.specs.Prelude.{◌≡◌, ℕ, ◌+◌, ◌-◌, ◌*◌, ◌<◌, ◌==◌, ◌&&◌, ◌||◌, not, Bool, true, false, cond, Option, Some, None, List, ◌∷◌, length, nat_le, get_or, slice_get, suc, IsTrue}
+use Rattle.std.specs.Prelude.{◌≡◌, ℕ, ◌+◌, ◌-◌, ◌*◌, ◌<◌, ◌==◌, ◌||◌, Bool, true, false, cond, Option, Some, None, List, ◌∷◌, length, nat_le, get_or, slice_get, suc, IsTrue}
 use Rattle.up_num.specs.declared.answers.AskKind.{AskKind}
 use Rattle.up_num.specs.declared.answers.Outcome.{Outcome}
 use Rattle.up_num.specs.declared.answers.Outcome.TheVariants.{Waiting, Detached as DetachedOutcome}
 use Rattle.up_num.specs.declared.answers.PageState.{PageState}
 use Rattle.up_num.specs.declared.answers.PageState.TheVariants.{Clean, Dirty}
 use Rattle.up_model.specs.Attempts.{Access, accepts, attempt}
+use Rattle.up_model.specs.Deeds.{dirties}
 use Rattle.up_model.specs.Value.{value, or_else}
 use Rattle.up_model.specs.Roles.{users, pagers, was_detached, detached}
 use Rattle.up_model.specs.Pins.{pins, always}
@@ -15,7 +16,7 @@ use Rattle.up_model.specs.Tickets.{next_ticket, spent}
 use Rattle.up_model.specs.Use.{last_use, cold_since, newest_epoch, generation}
 use Rattle.up_model.specs.Modified.{modified}
 use Rattle.up_model.specs.Reply.{proper, reply}
-use Rattle.up_model.specs.Looks.{PageLook, Missing, Zeros, Framed, look_of, has_frame, is_present, with_state, pinned_look}
+use Rattle.up_model.specs.Looks.{PageLook, Missing, Zeros, Framed, look_of, has_frame, is_present, with_state, dirtied_look, pinned_look}
 use Rattle.up_model.specs.declared.entry.Birth.{Birth}
 use Rattle.up_model.specs.declared.entry.Entry.{Entry}
 use Rattle.up_model.specs.declared.entry.Reply.TheVariants.{Blocked}
@@ -42,20 +43,29 @@ pub record FreshUse (birth : Birth) (e : Entry) (h : List Entry) (p : ℕ) : Typ
   pub aged : generation birth (e ∷ h) p ≡ newest_epoch (e ∷ h)
   pub chilled : cold_since birth (e ∷ h) p ≡ None
 
--- What becomes of page p.
+-- What becomes of page p, and whether the entry dirtied it.
 
--- it is this now; all else stays
+-- it is this now, and wasn't dirtied; all else stays
 pub record Turns (birth : Birth) (e : Entry) (h : List Entry) (p : ℕ) (look : PageLook) : Type 0 where
   pub looks : look_of birth (e ∷ h) p ≡ look
   pub bytes : SameBytes birth e h p
   pub marks : SameMarks birth e h p
   pub usage : SameUse birth e h p
+  pub undirtied : dirties birth h e p ≡ false
 
 abbrev pub SamePage : Birth → Entry → List Entry → ℕ → Type 0
 SamePage birth e h p = Turns birth e h p (look_of birth h p)
 
 abbrev pub SetsState : Birth → Entry → List Entry → ℕ → PageState → Type 0
 SetsState birth e h p state = Turns birth e h p (with_state state (look_of birth h p))
+
+-- it is dirty now, in a frame that isn't loaned where it had one; all else stays
+pub record LetsDirty (birth : Birth) (e : Entry) (h : List Entry) (p : ℕ) : Type 0 where
+  pub looks : look_of birth (e ∷ h) p ≡ dirtied_look (look_of birth h p)
+  pub bytes : SameBytes birth e h p
+  pub marks : SameMarks birth e h p
+  pub usage : SameUse birth e h p
+  pub dirtied : dirties birth h e p ≡ true
 
 -- a page in a frame gets another frame, and a state
 pub record Reframes (birth : Birth) (e : Entry) (h : List Entry) (p : ℕ) (state : PageState) (loan : Bool) : Type 0 where
@@ -68,6 +78,7 @@ pub record Uses (birth : Birth) (e : Entry) (h : List Entry) (p : ℕ) : Type 0 
   pub bytes : SameBytes birth e h p
   pub marks : SameMarks birth e h p
   pub fresh : FreshUse birth e h p
+  pub undirtied : dirties birth h e p ≡ false
 
 -- it was missing, and gets these bytes, which need no writeback
 pub record Fills (birth : Birth) (e : Entry) (h : List Entry) (p : ℕ) (given : List ℕ) : Type 0 where
@@ -76,6 +87,7 @@ pub record Fills (birth : Birth) (e : Entry) (h : List Entry) (p : ℕ) (given :
   pub bytes : (i : ℕ) → i < 4096 → value birth (e ∷ h) (4096 * p + i) ≡ Some (get_or given i 0)
   pub marks : SameMarks birth e h p
   pub fresh : FreshUse birth e h p
+  pub undirtied : dirties birth h e p ≡ false
 
 -- the byte at place i of a page, where these bytes are written from place `at` on
 abbrev pub over_byte : ℕ → List ℕ → ℕ → Option ℕ → Option ℕ
@@ -88,6 +100,7 @@ pub record Writes (birth : Birth) (e : Entry) (h : List Entry) (p : ℕ) (at : �
   pub bytes : (i : ℕ) → i < 4096 → value birth (e ∷ h) (4096 * p + i) ≡ over_byte at new i (value birth h (4096 * p + i))
   pub marks : SameMarks birth e h p
   pub fresh : FreshUse birth e h p
+  pub dirtied : dirties birth h e p ≡ true
 
 -- it was there, and has one pin more
 pub record PinsOne (birth : Birth) (e : Entry) (h : List Entry) (p : ℕ) : Type 0 where
@@ -98,6 +111,7 @@ pub record PinsOne (birth : Birth) (e : Entry) (h : List Entry) (p : ℕ) : Type
   pub pinned : pins (e ∷ h) p ≡ suc (pins h p)
   pub protected : always birth (e ∷ h) p ≡ always birth h p
   pub fresh : FreshUse birth e h p
+  pub undirtied : dirties birth h e p ≡ false
 
 -- it had a pin, and has one less
 pub record UnpinsOne (birth : Birth) (e : Entry) (h : List Entry) (p : ℕ) : Type 0 where
@@ -107,6 +121,7 @@ pub record UnpinsOne (birth : Birth) (e : Entry) (h : List Entry) (p : ℕ) : Ty
   pub pinned : pins (e ∷ h) p ≡ pins h p - 1
   pub protected : always birth (e ∷ h) p ≡ always birth h p
   pub usage : SameUse birth e h p
+  pub undirtied : dirties birth h e p ≡ false
 
 -- it is protected, or cold from this entry on
 pub record Hints (birth : Birth) (e : Entry) (h : List Entry) (p : ℕ) (protects : Bool) : Type 0 where
@@ -117,18 +132,21 @@ pub record Hints (birth : Birth) (e : Entry) (h : List Entry) (p : ℕ) (protect
   pub used : last_use birth (e ∷ h) p ≡ last_use birth h p
   pub aged : generation birth (e ∷ h) p ≡ generation birth h p
   pub chilled : cold_since birth (e ∷ h) p ≡ cond protects (cold_since birth h p) (Some (length h))
+  pub undirtied : dirties birth h e p ≡ false
 
 -- it is zeros now
 pub record Blanks (birth : Birth) (e : Entry) (h : List Entry) (p : ℕ) : Type 0 where
   pub looks : look_of birth (e ∷ h) p ≡ Zeros Dirty
   pub bytes : (i : ℕ) → i < 4096 → value birth (e ∷ h) (4096 * p + i) ≡ Some 0
   pub marks : SameMarks birth e h p
+  pub dirtied : dirties birth h e p ≡ true
 
 -- it goes, and leaves its hint
 pub record Goes (birth : Birth) (e : Entry) (h : List Entry) (p : ℕ) : Type 0 where
   pub looks : look_of birth (e ∷ h) p ≡ Missing
   pub bytes : (i : ℕ) → i < 4096 → value birth (e ∷ h) (4096 * p + i) ≡ None
   pub marks : SameMarks birth e h p
+  pub undirtied : dirties birth h e p ≡ false
 
 -- it is cut off, and nothing of it is left
 pub record Vanishes (birth : Birth) (e : Entry) (h : List Entry) (p : ℕ) : Type 0 where
@@ -136,6 +154,7 @@ pub record Vanishes (birth : Birth) (e : Entry) (h : List Entry) (p : ℕ) : Typ
   pub bytes : (i : ℕ) → i < 4096 → value birth (e ∷ h) (4096 * p + i) ≡ None
   pub unpinned : pins (e ∷ h) p ≡ 0
   pub unprotected : always birth (e ∷ h) p ≡ false
+  pub undirtied : dirties birth h e p ≡ false
 
 -- What becomes of those who wait.
 
@@ -194,5 +213,5 @@ pub record CutsOff (birth : Birth) (e : Entry) (h : List Entry) : Type 0 where
 
 -- the entry is a proper call with the reply that is due
 pub record IsDue (birth : Birth) (e : Entry) (h : List Entry) : Type 0 where
-  pub properly : IsTrue (proper h e.who e.call)
+  pub properly : IsTrue (proper birth h e.who e.call)
   pub answer : e.reply ≡ reply birth h e.who e.epoch e.call

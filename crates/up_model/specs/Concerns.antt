@@ -23,7 +23,7 @@ abbrev pub call_concerns : Call → ℕ → Reply → ℕ → Bool
 call_concerns (Supply range bytes brought) n reply p = covers range p
 call_concerns (Dirty range brought) n reply p = covers range p
 call_concerns (Begin range only_zero) n reply p = covers range p
-call_concerns (End range) n reply p = covers range p
+call_concerns (End range of) n reply p = covers range p
 call_concerns (Hint range kind) n reply p = covers range p
 call_concerns (Pin range brought) n reply p = covers range p
 call_concerns (Unpin range) n reply p = covers range p
@@ -43,7 +43,7 @@ abbrev pub can_resolve : Call → Bool
 can_resolve (Supply range bytes brought) = true
 can_resolve (Fail range code) = true
 can_resolve (Dirty range brought) = true
-can_resolve (End range) = true
+can_resolve (End range of) = true
 can_resolve (Resize pages) = true
 can_resolve (Zero range) = true
 can_resolve Detach = true

@@ -12,7 +12,7 @@ use Rattle.up_model.specs.declared.entry.HintKind.TheVariants.{Always, Cold}
 use Rattle.up_model.specs.declared.entry.Call.{Call}
 use Rattle.up_model.specs.declared.entry.Call.TheVariants as calls
 use Rattle.up_model.specs.declared.entry.Reply.{Reply}
-use Rattle.up_model.specs.declared.entry.Reply.TheVariants.{Pages, Borrowed, Vacated}
+use Rattle.up_model.specs.declared.entry.Reply.TheVariants.{Began, Pages, Borrowed, Vacated}
 
 -- the access is a write, or a read, of bytes in page p
 abbrev pub writes_in : Option Access → ℕ → Bool
@@ -45,7 +45,7 @@ over_begin (calls.Begin range only_zero) p = covers range p
 over_begin _ p = false
 
 abbrev pub over_end : Call → ℕ → Bool
-over_end (calls.End range) p = covers range p
+over_end (calls.End range of) p = covers range p
 over_end _ p = false
 
 abbrev pub over_pin : Call → ℕ → Bool
@@ -76,6 +76,33 @@ over_cold _ p = false
 abbrev pub for_zero : Call → Bool
 for_zero (calls.Begin range only_zero) = only_zero
 for_zero _ = false
+
+-- the begins that an end is for: each, the one with this number, or none
+pub data Named : Type 0 where
+  AnyBegin : Named
+  ThisBegin : ℕ → Named
+  NoBegin : Named
+
+-- the reply gave a begin this number
+abbrev pub began_as : Reply → ℕ → Bool
+began_as (Began m) n = m == n
+began_as _ n = false
+
+-- a begin with this reply is one of them
+abbrev pub is_named : Named → Reply → Bool
+is_named AnyBegin r = true
+is_named (ThisBegin n) r = began_as r n
+is_named NoBegin r = false
+
+-- on a ranged object an end is for each begin, on a numbered one for the one that it names
+abbrev pub named_by : Bool → Option ℕ → Named
+named_by false of = AnyBegin
+named_by true None = NoBegin
+named_by true (Some n) = ThisBegin n
+
+abbrev pub named : Birth → Call → Named
+named birth (calls.End range of) = named_by birth.numbered of
+named birth _ = NoBegin
 
 -- an accepted call of this kind over p
 abbrev pub supplies : Entry → ℕ → Bool

@@ -11,7 +11,7 @@ use Rattle.up_model.specs.declared.entry.Call.TheVariants.{Retry}
 
 -- in a legal journal an actor that waits under a ticket may retry it
 abbrev pub WhoWaitsMayRetry : Type 0
-WhoWaitsMayRetry = (birth : Birth) (h : List Entry) → Legal birth h → (who t : ℕ) → waits_under h who ≡ Some t → proper h who (Retry t Nothing) ≡ true
+WhoWaitsMayRetry = (birth : Birth) (h : List Entry) → Legal birth h → (who t : ℕ) → waits_under h who ≡ Some t → proper birth h who (Retry t Nothing) ≡ true
 
 -- in a legal journal each access that waits, or waited, has some bytes, all in one page
 abbrev pub WhatWaitsLiesInAPage : Type 0

@@ -9,7 +9,7 @@ use Rattle.up_model.specs.declared.entry.Call.{Call}
 abbrev pub Legal : Birth → List Entry → Type 0
 Legal birth [] = Unit {0}
 Legal birth (e ∷ before) =
-    Legal birth before × IsTrue (proper before e.who e.call) × (e.reply ≡ reply birth before e.who e.epoch e.call)
+    Legal birth before × IsTrue (proper birth before e.who e.call) × (e.reply ≡ reply birth before e.who e.epoch e.call)
 
 -- what contracts see of an object: its birth and its journal, newest entry first
 pub record Life : Type 0 where

@@ -14,6 +14,7 @@ pub mod Use
 pub mod Order
 pub mod Modified
 pub mod Newest
+pub mod Numbers
 pub mod Parked
 pub mod Reply
 pub mod Legal
@@ -28,3 +29,4 @@ pub mod Lasts
 pub mod Survival
 pub mod Ordering
 pub mod Meanings
+pub mod Numbering

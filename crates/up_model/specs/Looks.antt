@@ -79,13 +79,23 @@ begun_look only_zero (Zeros state) = Zeros (begun_state state)
 begun_look true (Framed state loan) = Framed state loan
 begun_look false (Framed state loan) = Framed (begun_state state) loan
 
--- after an end: what awaits it is clean, and zeros go
-abbrev pub ended_look : PageLook → PageLook
-ended_look Missing = Missing
-ended_look (Zeros AwaitingClean) = Missing
-ended_look (Zeros state) = Zeros state
-ended_look (Framed AwaitingClean loan) = Framed Clean loan
-ended_look (Framed state loan) = Framed state loan
+-- the page awaits the end of its writeback
+abbrev pub awaits_state : PageState → Bool
+awaits_state AwaitingClean = true
+awaits_state _ = false
+
+abbrev pub awaits : PageLook → Bool
+awaits Missing = false
+awaits (Zeros state) = awaits_state state
+awaits (Framed state loan) = awaits_state state
+
+-- after an end, where this is for the page: the page is clean, and zeros that aren't go
+abbrev pub ended_look : Bool → PageLook → PageLook
+ended_look false look = look
+ended_look true Missing = Missing
+ended_look true (Zeros Clean) = Zeros Clean
+ended_look true (Zeros state) = Missing
+ended_look true (Framed state loan) = Framed Clean loan
 
 -- after leave to make it dirty: a loaned frame is exchanged
 abbrev pub dirtied_look : PageLook → PageLook

@@ -77,7 +77,7 @@ EmptyingTakesBytes =
 -- and frees those who wait to make it dirty
 abbrev pub EmptyingFrees : Type 0
 EmptyingFrees =
-    (birth : Birth) (e : Entry) (before : List Entry) (range : Span) → e.call ≡ End range → (p : ℕ) →
+    (birth : Birth) (e : Entry) (before : List Entry) (range : Span) (of : Option ℕ) → e.call ≡ End range of → (p : ℕ) →
     resolved birth before e DirtyAsk p ≡ cond (empties birth before e p) Freed Waiting
 
 -- in a legal journal the first page that a waiting access asks for is asked for, as long as nothing has become of its ticket

@@ -5,9 +5,9 @@ use Rattle.up_num.specs.declared.answers.AskKind.{AskKind}
 use Rattle.up_num.specs.declared.answers.Outcome.{Outcome}
 use Rattle.up_num.specs.declared.answers.Outcome.TheVariants.{Waiting}
 use Rattle.up_model.specs.Attempts.{accepts}
-use Rattle.up_model.specs.Deeds.{writes, ends, pins_one, unpins_one, blanks, dirties, hints_always, hints_cold, borrows}
-use Rattle.up_model.specs.Value.{marked, begun, settled, takes, there}
-use Rattle.up_model.specs.States.{counts, clean, awaiting, dirty, plain}
+use Rattle.up_model.specs.Deeds.{Named, NoBegin, named, writes, ends, pins_one, unpins_one, blanks, dirties, hints_always, hints_cold, borrows}
+use Rattle.up_model.specs.Value.{marked, begun_by, begun, settled, takes, there}
+use Rattle.up_model.specs.States.{counts, counts_as, clean, awaiting, dirty, plain}
 use Rattle.up_model.specs.Roles.{detached, detaches, users, pagers, leaves_user, leaves_pager, is_left}
 use Rattle.up_model.specs.Size.{cuts}
 use Rattle.up_model.specs.Pins.{pins, always, loaned, ends_loan}
@@ -72,6 +72,17 @@ beginning birth p before e = counts birth before e p
 abbrev pub ending : ℕ → List Entry → Entry → Bool
 ending p before e = ends e p
 
+-- it is one of these begins, and counts for p
+abbrev pub beginning_as : Birth → Named → ℕ → List Entry → Entry → Bool
+beginning_as birth which p before e = counts_as birth before which e p
+
+-- the begins that it is for as an end, and those that the entry at position k is for
+abbrev pub naming : Birth → List Entry → Entry → Named
+naming birth before e = named birth e.call
+
+abbrev pub named_at : Birth → List Entry → ℕ → Named
+named_at birth h k = said_at NoBegin (naming birth) h k
+
 abbrev pub blanking : Birth → ℕ → List Entry → Entry → Bool
 blanking birth p before e = blanks birth before e p
 
@@ -101,14 +112,19 @@ BegunAt birth h p k = PassesAfter (beginning birth p) (dirtying birth p) h k
 abbrev pub Begun : Birth → List Entry → ℕ → Type 0
 Begun birth h p = (k : ℕ) × BegunAt birth h p k
 
--- an accepted end over p stands at k, after such a begin
+-- of these begins one that counts for p stands after what dirtied p last
+abbrev pub BegunBy : Birth → List Entry → Named → ℕ → Type 0
+BegunBy birth h which p = (k : ℕ) × PassesAfter (beginning_as birth which p) (dirtying birth p) h k
+
+-- an accepted end over p stands at k, and before it a begin that it is for, which counts for p and stands after what
+-- dirtied p last
 pub record EndedAt (birth : Birth) (h : List Entry) (p k : ℕ) : Type 0 where
   pub end : passes_at (ending p) h k ≡ true
   pub start : ℕ
   pub order : start < k
-  pub begun : BegunAt birth h p start
+  pub begun : PassesAfter (beginning_as birth (named_at birth h k) p) (dirtying birth p) h start
 
--- p was never dirtied, or such an end stands after such a begin
+-- p was never dirtied, or such an end stands in the journal
 abbrev pub Settled : Birth → List Entry → ℕ → Type 0
 Settled birth h p = (dirtied birth h p ≡ None) ⊎ ((k : ℕ) × EndedAt birth h p k)
 
@@ -191,7 +207,12 @@ LastPositionIsLast =
 abbrev pub BegunIsPlaced : Type 0
 BegunIsPlaced = (birth : Birth) (h : List Entry) (p : ℕ) → (begun birth h p ≡ true) ↔ Begun birth h p
 
--- it is settled exactly where it was never dirtied, or an accepted end stands after such a begin
+-- and so for the begins that an end is for
+abbrev pub BegunByIsPlaced : Type 0
+BegunByIsPlaced =
+    (birth : Birth) (h : List Entry) (which : Named) (p : ℕ) → (begun_by birth h which p ≡ true) ↔ BegunBy birth h which p
+
+-- it is settled exactly where it was never dirtied, or an accepted end stands after such a begin that the end is for
 abbrev pub SettledIsPlaced : Type 0
 SettledIsPlaced = (birth : Birth) (h : List Entry) (p : ℕ) → (settled birth h p ≡ true) ↔ Settled birth h p
 

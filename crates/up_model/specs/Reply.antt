@@ -1,5 +1,5 @@
 -- Which calls are proper after a journal, and what each answers.
-use Rattle.std.specs.Prelude.{ℕ, ◌+◌, ◌*◌, ◌%◌, ◌==◌, ◌&&◌, ◌||◌, not, max, Bool, true, false, cond, Option, Some, None, List, length, map, take, nat_le, nat_lt, slice_get}
+use Rattle.std.specs.Prelude.{ℕ, ◌+◌, ◌*◌, ◌%◌, ◌==◌, ◌&&◌, ◌||◌, not, max, Bool, true, false, cond, Option, Some, None, is_some, List, length, map, take, nat_le, nat_lt, slice_get}
 use Rattle.up_num.specs.Span.{Span}
 use Rattle.up_num.specs.declared.pages.PageNo.{PageNo}
 use Rattle.up_num.specs.declared.pages.DirtyRange.{DirtyRange}
@@ -20,6 +20,7 @@ use Rattle.up_model.specs.Use.{newest_epoch}
 use Rattle.up_model.specs.Order.{loose, order}
 use Rattle.up_model.specs.Modified.{modified}
 use Rattle.up_model.specs.Packets.{sent, taken}
+use Rattle.up_model.specs.Numbers.{next_number, has_begun}
 use Rattle.up_model.specs.Tickets.{next_ticket, owner, spent, outcome, woken}
 use Rattle.up_model.specs.declared.entry.Birth.{Birth}
 use Rattle.up_model.specs.declared.entry.Entry.{Entry}
@@ -63,18 +64,24 @@ abbrev pub is_by : Option ℕ → ℕ → Bool
 is_by None who = false
 is_by (Some holder) who = holder == who
 
--- the call keeps the conditions that its caller owes
-abbrev pub proper : List Entry → ℕ → Call → Bool
-proper h who (Read piece last brought) = is_piece piece.off piece.len last.0 && counts_frames brought
-proper h who (Write off bytes last brought) = is_piece off (length bytes) last.0 && counts_frames brought
-proper h who (Retry ticket brought) = is_by (owner h ticket) who && (not (spent h ticket) && counts_frames brought)
-proper h who (Supply range bytes brought) =
+-- both tests hold, or neither does
+abbrev pub same_flag : Bool → Bool → Bool
+same_flag true b = b
+same_flag false b = not b
+
+-- the call keeps the conditions that its caller owes; an end names a begin exactly where the object is numbered
+abbrev pub proper : Birth → List Entry → ℕ → Call → Bool
+proper birth h who (Read piece last brought) = is_piece piece.off piece.len last.0 && counts_frames brought
+proper birth h who (Write off bytes last brought) = is_piece off (length bytes) last.0 && counts_frames brought
+proper birth h who (Retry ticket brought) = is_by (owner h ticket) who && (not (spent h ticket) && counts_frames brought)
+proper birth h who (Supply range bytes brought) =
     (length bytes == 4096 * range.count) && (brings range.count brought && counts_frames brought)
-proper h who (Dirty range brought) = counts_frames brought
-proper h who (Pin range brought) = counts_frames brought
-proper h who (Borrow page brought) = counts_frames brought
-proper h who (Vacate brought) = counts_frames brought
-proper h who _ = true
+proper birth h who (Dirty range brought) = counts_frames brought
+proper birth h who (End range of) = same_flag birth.numbered (is_some of)
+proper birth h who (Pin range brought) = counts_frames brought
+proper birth h who (Borrow page brought) = counts_frames brought
+proper birth h who (Vacate brought) = counts_frames brought
+proper birth h who _ = true
 
 -- a refusal where the test holds, else what comes next
 abbrev pub refuse_where : Bool → Refusal → Reply → Reply
@@ -84,6 +91,15 @@ refuse_where test why next = cond test (answer.Refused why) next
 abbrev pub refuse_at : Option ℕ → (PageNo → Refusal) → Reply → Reply
 refuse_at None why next = next
 refuse_at (Some p) why next = answer.Refused (why (page_number p))
+
+-- what a begin answers: its number, on a numbered object
+abbrev pub begin_reply : Birth → List Entry → Reply
+begin_reply birth h = cond birth.numbered (answer.Began (next_number h)) answer.Done
+
+-- a refusal where the number is one that no begin has, else what comes next
+abbrev pub refuse_unbegun : List Entry → Option ℕ → Reply → Reply
+refuse_unbegun h None next = next
+refuse_unbegun h (Some n) next = refuse_where (not (has_begun h n)) (refusal.NotBegun n) next
 
 -- a call that needs m frames now: none to be had by a scan, or fewer than m brought; else what comes next
 abbrev pub with_frames : ℕ → Brought → Reply → Reply
@@ -215,9 +231,11 @@ reply birth h who epoch (Dirty range brought) =
     (refuse_at (first_in (absent birth h) range) refusal.NotFound
     (with_frames (count_in (loaned birth h) range) brought
     (answer.Woke (woken birth h (Dirty range brought)))))))
-reply birth h who epoch (Begin range only_zero) = refuse_where (not (range_fits birth h range)) refusal.Range answer.Done
-reply birth h who epoch (End range) =
-    refuse_where (not (range_fits birth h range)) refusal.Range (answer.Woke (woken birth h (End range)))
+reply birth h who epoch (Begin range only_zero) = refuse_where (not (range_fits birth h range)) refusal.Range (begin_reply birth h)
+reply birth h who epoch (End range of) =
+    refuse_where (not (range_fits birth h range)) refusal.Range
+    (refuse_unbegun h of
+    (answer.Woke (woken birth h (End range of))))
 reply birth h who epoch (Query range room) =
     refuse_where (not (range_fits birth h range)) refusal.Range (ranges_reply room (unclean_runs birth h range))
 reply birth h who epoch (Stats reset) = answer.Modified (modified birth h)

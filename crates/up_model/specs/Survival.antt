@@ -4,7 +4,7 @@ use Rattle.up_model.specs.Attempts.{Access, page_of, attempt}
 use Rattle.up_model.specs.Size.{size}
 use Rattle.up_model.specs.Deeds.{writes, blanks, written}
 use Rattle.up_model.specs.Value.{value, there}
-use Rattle.up_model.specs.Positions.{first_of, said_at, passes_at, beginning, ending, dirtying}
+use Rattle.up_model.specs.Positions.{first_of, said_at, passes_at, beginning, beginning_as, named_at, ending, dirtying}
 use Rattle.up_model.specs.Lasts.{last_said}
 use Rattle.up_model.specs.Legal.{Legal}
 use Rattle.up_model.specs.declared.entry.Birth.{Birth}
@@ -42,14 +42,14 @@ pub record Stays (birth : Birth) (h : List Entry) (p i : ℕ) : Type 0 where
   pub here : there birth h p ≡ true
   pub bytes : Kept birth h p i h
 
--- a writeback could have read them: after i a begin stands that counts for p, and after it an accepted end over p; nothing
--- dirtied p between the two, and from the begin to just before the end p had these bytes
+-- a writeback could have read them: after i a begin stands that counts for p, and after it an accepted end over p that is for
+-- this begin; nothing dirtied p between the two, and from the begin to just before the end p had these bytes
 pub record WroteBack (birth : Birth) (h : List Entry) (p i : ℕ) : Type 0 where
   pub start : ℕ
   pub stop : ℕ
   pub after : i < start
   pub order : start < stop
-  pub begin : passes_at (beginning birth p) h start ≡ true
+  pub begin : passes_at (beginning_as birth (named_at birth h stop) p) h start ≡ true
   pub end : passes_at (ending p) h stop ≡ true
   pub still : (k : ℕ) → start < k → k < stop → passes_at (dirtying birth p) h k ≡ false
   pub bytes : (k : ℕ) → start ≤ k → k ≤ stop → Kept birth h p i (first_of h k)

@@ -1,7 +1,7 @@
 -- What each byte of the object is, which pages are there, and what has become of the writeback of a page.
 use Rattle.std.specs.Prelude.{ℕ, ◌+◌, ◌*◌, ◌&&◌, ◌||◌, not, Bool, true, false, cond, Option, Some, None, is_some, List, [], ◌∷◌, zero, suc}
 use Rattle.up_model.specs.Attempts.{page_of, attempt}
-use Rattle.up_model.specs.Deeds.{writes, supplies, begins, ends, pins_one, for_zero, blanks, dirties, drops, written, supplied}
+use Rattle.up_model.specs.Deeds.{Named, AnyBegin, is_named, named, writes, supplies, begins, ends, pins_one, for_zero, blanks, dirties, drops, written, supplied}
 use Rattle.up_model.specs.declared.entry.Birth.{Birth}
 use Rattle.up_model.specs.declared.entry.Entry.{Entry}
 
@@ -22,13 +22,13 @@ value_after birth before e x emptied old =
 -- Four definitions that look at one another. Below each stands again in plain words (`States`), and here as one
 -- equation over the last entry.
 unfoldable mutual
-  -- the byte at offset x, where there is one: the last entry decides. An end empties a page that was there, a zero page,
-  -- and awaiting.
+  -- the byte at offset x, where there is one: the last entry decides. An end empties a page that was there, a zero page and
+  -- not settled, where a begin that the end is for has begun its writeback.
   pub value : Birth → List Entry → ℕ → Option ℕ
   value birth [] x = None
   value birth (e ∷ before) x =
       value_after birth before e x (elim (ends e (page_of x)) [
-        | true ↦ (is_some (value birth before (4096 * page_of x)) && marked birth before (page_of x)) && ((is_some (value birth before (4096 * page_of x)) && not (settled birth before (page_of x))) && begun birth before (page_of x))
+        | true ↦ (is_some (value birth before (4096 * page_of x)) && marked birth before (page_of x)) && ((is_some (value birth before (4096 * page_of x)) && not (settled birth before (page_of x))) && begun_by birth before (named birth e.call) (page_of x))
         | false ↦ false
       ]) (value birth before x)
 
@@ -41,23 +41,27 @@ unfoldable mutual
         | false ↦ marked birth before p
       ]))
 
-  -- a begin that counts for p stands after what dirtied p last. One for zero pages counts where p was a zero page.
-  pub begun : Birth → List Entry → ℕ → Bool
-  begun birth [] p = false
-  begun birth (e ∷ before) p =
-      cond (dirties birth before e p) false (elim (begins e p) [
-        | true ↦ (not (for_zero e.call) || (is_some (value birth before (4096 * p)) && marked birth before p)) || begun birth before p
-        | false ↦ begun birth before p
+  -- of these begins one that counts for p stands after what dirtied p last. One for zero pages counts where p was a zero page.
+  pub begun_by : Birth → List Entry → Named → ℕ → Bool
+  begun_by birth [] which p = false
+  begun_by birth (e ∷ before) which p =
+      cond (dirties birth before e p) false (elim (is_named which e.reply && begins e p) [
+        | true ↦ (not (for_zero e.call) || (is_some (value birth before (4096 * p)) && marked birth before p)) || begun_by birth before which p
+        | false ↦ begun_by birth before which p
       ])
 
-  -- p was never dirtied, or such a begin stands after what dirtied p last, and an accepted end over p after that begin
+  -- p was never dirtied, or such a begin stands after what dirtied p last, and after it an accepted end over p that is for it
   pub settled : Birth → List Entry → ℕ → Bool
   settled birth [] p = true
   settled birth (e ∷ before) p =
       cond (dirties birth before e p) false (elim (ends e p) [
-        | true ↦ begun birth before p || settled birth before p
+        | true ↦ begun_by birth before (named birth e.call) p || settled birth before p
         | false ↦ settled birth before p
       ])
+
+-- a begin that counts for p stands after what dirtied p last
+abbrev pub begun : Birth → List Entry → ℕ → Bool
+begun birth h p = begun_by birth h AnyBegin p
 
 -- the page is there: its first byte has a value
 abbrev pub there : Birth → List Entry → ℕ → Bool

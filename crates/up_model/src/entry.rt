@@ -18,6 +18,8 @@ pub struct Birth {
     pub pagers: u32,
     /// Whether the sample pager keeps it on a disk.
     pub image: bool,
+    /// Whether each begin has a number, and an end names the begin that it ends.
+    pub numbered: bool,
 }
 
 /// The frames that a call brought for the pages that it fills.
@@ -97,9 +99,10 @@ pub enum Call {
         range: PageRange,
         zero: bool,
     },
-    /// Ends the writeback of pages.
+    /// Ends the writeback of pages; on a numbered object, of the begin with the number `of`.
     End {
         range: PageRange,
+        of: Option<u64>,
     },
     /// Lists the pages that await writeback, at most `room` runs.
     Query {
@@ -156,6 +159,8 @@ pub enum Call {
 pub enum Reply {
     Bytes(Bytes),
     Done,
+    /// The writeback has begun, under this number.
+    Began(u64),
     /// The access waits under this ticket.
     Blocked(u64),
     /// The access under the ticket still waits.

@@ -7,6 +7,7 @@ mod entry;
 pub mod laws;
 mod log;
 pub mod meanings;
+pub mod numbers;
 pub mod ordering;
 pub mod positions;
 pub mod standing;

@@ -1,6 +1,6 @@
 //! Laws over all journals: what the definitions say by the last entry is what they mean by positions. Each is a function with
 //! an empty body, whose clause is the law.
-ghost use Rattle.up_model.specs.Positions.{LastPositionIsLast, BegunIsPlaced, SettledIsPlaced, MarkedIsPlaced, AskedIsPlaced, DetachingIsTheStep, DetachingIsPlaced, StatesArePlaced, UseIsPlaced, ColdIsPlaced, GenerationIsPlaced, OutcomeIsPlaced, WakesIsPlaced, AlwaysIsPlaced, LoanedIsPlaced, ModifiedIsPlaced, RolesAreCounted, PinsAreCounted};
+ghost use Rattle.up_model.specs.Positions.{LastPositionIsLast, BegunIsPlaced, BegunByIsPlaced, SettledIsPlaced, MarkedIsPlaced, AskedIsPlaced, DetachingIsTheStep, DetachingIsPlaced, StatesArePlaced, UseIsPlaced, ColdIsPlaced, GenerationIsPlaced, OutcomeIsPlaced, WakesIsPlaced, AlwaysIsPlaced, LoanedIsPlaced, ModifiedIsPlaced, RolesAreCounted, PinsAreCounted};
 
 /// The last position of an entry that passes a test: it passes there, and none after it does.
 pub fn last_position_is_last()
@@ -12,7 +12,12 @@ pub fn begun_is_placed()
     ensures { BegunIsPlaced }
 {}
 
-/// A page is settled: it was never dirtied, or an end stands after such a begin.
+/// So for the begins that an end is for.
+pub fn begun_by_is_placed()
+    ensures { BegunByIsPlaced }
+{}
+
+/// A page is settled: it was never dirtied, or an end stands after such a begin that it is for.
 pub fn settled_is_placed()
     ensures { SettledIsPlaced }
 {}

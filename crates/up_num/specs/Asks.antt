@@ -3,9 +3,9 @@ use Rattle.std.specs.Prelude.{ℕ, ◌+◌, ◌&&◌, Bool, true, false, Option,
 use Rattle.up_num.specs.declared.answers.AskKind.{AskKind}
 use Rattle.up_num.specs.declared.answers.AskKind.TheVariants.{Read as ReadAsk, Dirty as DirtyAsk}
 use Rattle.up_num.specs.declared.answers.Outcome.{Outcome}
-use Rattle.up_num.specs.declared.answers.Outcome.TheVariants.{Waiting, Freed, Failed, Detached, Shrunk}
+use Rattle.up_num.specs.declared.answers.Outcome.TheVariants.{Waiting}
 use Rattle.up_num.specs.declared.answers.Packet.{Packet}
-use Rattle.up_num.specs.declared.answers.Packet.TheVariants.{Read as ReadPacket, Dirty as DirtyPacket, Complete}
+use Rattle.up_num.specs.declared.answers.Packet.TheVariants.{Read as ReadPacket, Dirty as DirtyPacket}
 
 -- what is asked of the pager: pages to read, or leave to make pages dirty
 pub record Ask : Type 0 where

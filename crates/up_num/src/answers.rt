@@ -30,6 +30,8 @@ pub enum Refusal {
     Unclean(PageNo),
     /// A frame was needed, and a scan of the bank found none.
     NoFrames,
+    /// No begin has the number that an end names.
+    NotBegun(u64),
 }
 
 /// What is asked of a pager: that it supplies an absent page, or lets a clean one get dirty.

@@ -15,6 +15,7 @@ ghost use Rattle.up_model.specs.Use as uses;
 ghost use Rattle.up_model.specs.Value as values;
 
 use crate::slow::modified::modified;
+use crate::slow::numbers::{has_begun, next_number};
 use crate::slow::order::order;
 use crate::slow::packets::{sent, taken};
 use crate::slow::ranges::{
@@ -241,7 +242,22 @@ pub(crate) fn dirty(
     Ok(with_frames(count, brought, Reply::Woke(woke)))
 }
 
-/// A begin or a hint.
+/// A begin of the writeback of this range.
+pub(crate) fn begin(birth: &Birth, before: &[Entry], range: &PageRange) -> Reply
+    ensures { result ≡ replies.refuse_where (not (sizing.range_fits birth.now (reverse before.now) range.now)) Refusal.Range
+        (replies.begin_reply birth.now (reverse before.now)) }
+{
+    if !range_fits(birth, before, range) {
+        return Reply::Refused(Refusal::Range);
+    }
+    if birth.numbered {
+        Reply::Began(next_number(before))
+    } else {
+        Reply::Done
+    }
+}
+
+/// A hint.
 pub(crate) fn done_within(birth: &Birth, before: &[Entry], range: &PageRange) -> Reply
     ensures { result ≡ replies.refuse_where (not (sizing.range_fits birth.now (reverse before.now) range.now)) Refusal.Range Reply.Done }
 {
@@ -252,20 +268,27 @@ pub(crate) fn done_within(birth: &Birth, before: &[Entry], range: &PageRange) ->
     }
 }
 
-/// `call` ends the writeback of this range.
+/// `call` ends the writeback of this range, of the begin with the number that it names.
 pub(crate) fn end(
     alloc: Global,
     birth: &Birth,
     before: &[Entry],
     call: &Call,
     range: &PageRange,
+    of: &Option<u64>,
 ) -> Result<Reply, Memory>
     ensures { IfOk result (λ r. r ≡
         replies.refuse_where (not (sizing.range_fits birth.now (reverse before.now) range.now)) Refusal.Range
-        (Reply.Woke (ticketing.woken birth.now (reverse before.now) call.now))) }
+        (replies.refuse_unbegun (reverse before.now) of.now
+        (Reply.Woke (ticketing.woken birth.now (reverse before.now) call.now)))) }
 {
     if !range_fits(birth, before, range) {
         return Ok(Reply::Refused(Refusal::Range));
+    }
+    if let Some(number) = of
+        && !has_begun(before, *number)
+    {
+        return Ok(Reply::Refused(Refusal::NotBegun(*number)));
     }
     Ok(Reply::Woke(woken(alloc, birth, before, call)?))
 }

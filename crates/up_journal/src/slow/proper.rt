@@ -2,7 +2,7 @@ ghost use Rattle.std.specs.Prelude.{◌≡◌, ◌==◌, ◌*◌, ◌&&◌, not,
 ghost use Rattle.up_model.specs.Reply as replies;
 ghost use Rattle.up_model.specs.Tickets as tickets;
 
-use up_model::{Brought, Call, Entry, Reply};
+use up_model::{Birth, Brought, Call, Entry, Reply};
 use up_num::{PageNo, PageRange};
 
 const PAGE: u64 = 4096;
@@ -83,8 +83,8 @@ fn may_retry(before: &[Entry], who: u32, ticket: u64) -> bool
 }
 
 /// The call keeps the conditions that its caller owes, after the entries before it.
-pub fn is_proper(before: &[Entry], who: u32, call: &Call) -> bool
-    ensures { result ≡ replies.proper (reverse before.now) who call.now }
+pub fn is_proper(birth: &Birth, before: &[Entry], who: u32, call: &Call) -> bool
+    ensures { result ≡ replies.proper birth.now (reverse before.now) who call.now }
 {
     match call {
         Call::Read {
@@ -106,6 +106,7 @@ pub fn is_proper(before: &[Entry], who: u32, call: &Call) -> bool
             bytes,
             brought,
         } => { is_supply(*range, bytes.len() as u64, *brought) }
+        Call::End { of, .. } => of.is_some() == birth.numbered,
         Call::Dirty { brought, .. } | Call::Pin { brought, .. } => counts_frames(*brought),
         Call::Borrow { brought, .. } | Call::Vacate { brought } => counts_frames(*brought),
         _ => true,

@@ -1,5 +1,4 @@
-use Rattle.std.proofs.Common.{◌≡◌, ◌+◌, ◌-◌, ◌∷◌, ◌∙◌, ap, sym, arith, rules}
-use Rattle.up_num.specs.Pieces.{pieces}
+use Rattle.std.proofs.Common.{◌∙◌, sym, arith, rules}
 use Rattle.up_num.proofs.Cuts.{pieces_more}
 use Rattle.up_num.proofs.pieces.PiecesIterator.next.Goals as goal
 
