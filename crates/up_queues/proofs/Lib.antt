@@ -1,3 +1,11 @@
 pub mod Orders
 pub mod Queueing
 pub mod Few
+pub mod Linking
+pub mod Finding
+pub mod Walking
+pub mod Both
+pub mod Renewing
+pub mod Due
+pub mod Doing
+pub mod Seating

@@ -1,2 +1,4 @@
 pub mod Queue
 pub mod Laws
+pub mod Lists
+pub mod Seats

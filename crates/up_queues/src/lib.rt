@@ -2,8 +2,10 @@
 #![tactic(auto)]
 
 pub mod laws;
+mod lists;
 mod queued;
 mod queues;
+mod seats;
 
 pub use queued::Queued;
 pub use queues::Queues;

@@ -1,96 +1,34 @@
-ghost use Rattle.std.specs.Prelude.{◌≡◌, ℕ, ◌+◌, ◌<◌, ◌≤◌, ◌==◌, [], cond, length, vec_capacity, filter, map, position, take, true, false, Some, None, IfOk, IfSome, OnOk, OnErr};
+ghost use Rattle.std.specs.Prelude.{◌≡◌, ℕ, ◌+◌, ◌<◌, ◌≤◌, ◌==◌, [], cond, length, filter, map, take, Some, None, IfOk, OnOk, OnErr};
 ghost use Rattle.std.specs.Option.{option_map};
-ghost use Rattle.std.specs.List.Sorted.{IsPartitionPoint};
-ghost use Rattle.up_queues.specs.Queue.{find_page, goes_first, InOrder, is_due, chilled};
+ghost use Rattle.up_queues.specs.Queue.{find_page, InOrder, is_due, chilled};
 
+use crate::lists::{Lists, Wanted, empty_lists, push_due, put, set_item, stays_last, take};
 use crate::queued::Queued;
-use std::alloc::Global;
+use crate::seats::{Seat, key_of, seat_in, seat_out};
+use std::alloc::{AllocError, Global};
 use std::marker::Model;
 use up_num::{Memory, PageNo, PageSeq};
 
 /// The pages of an object that may be reclaimed, in the order in which they go.
 #[derive(Debug, Drop)]
 pub struct Queues {
-    items: Vec<Queued>,
+    lists: Lists,
+    seats: Vec<Seat>,
+    room: usize,
 }
 
 impl Model for Queues {
-    ghost use Rattle.std.specs.Prelude.{vec_capacity};
-    ghost use Rattle.up_queues.specs.Queue.{Queue, InOrder};
+    ghost use Rattle.std.specs.Prelude.{◌++◌, vec_capacity};
+    ghost use Rattle.slab.specs.Slab.{get, slab_len};
+    ghost use Rattle.up_queues.specs.Queue.{Queue};
+    ghost use Rattle.up_queues.specs.Lists.{items_in};
+    ghost use Rattle.up_queues.specs.Seats.{AreQueues};
 
     ghost Value = { Queue };
 
-    ghost view = { λ queues. record { items = queues.items.items; room = vec_capacity queues.items } };
+    ghost view = { λ queues. record { items = items_in queues.lists; room = queues.room } };
 
-    ghost invariant = { λ queues. InOrder queues.items.items };
-}
-
-// Where the item of a page stands.
-fn place_of(items: &[Queued], page: PageNo) -> Option<usize>
-    ensures { result ≡ position (λ item. item.page.0 == page.0) items.now }
-{
-    items.iter().position(|item| item.page == page)
-}
-
-// Where an item is to stand.
-fn place_for(items: &[Queued], item: &Queued) -> usize
-    requires { InOrder items.now }
-    ensures bound { result ≤ length items.now }
-    ensures point { IsPartitionPoint (λ other. goes_first other item.now ≡ true) (λ other. goes_first other item.now ≡ false) items.now result }
-{
-    items.partition_point(|other| other.goes_first(item))
-}
-
-// Takes the item of a page out, if it has one.
-fn take_out(items: &mut Vec<Queued>, page: PageNo) -> Option<Queued>
-    requires { InOrder items.old.items }
-    ensures item { result ≡ find_page items.old.items page.0 }
-    ensures own { IfSome result (λ item. item.page ≡ page) }
-    ensures pages { (p : ℕ) → find_page items.new.items p ≡ cond (page.0 == p) None (find_page items.old.items p) }
-    ensures ordered { InOrder items.new.items }
-    ensures room { vec_capacity items.new ≡ vec_capacity items.old }
-    ensures place { (result ≡ None → length items.old.items < vec_capacity items.old) → length items.new.items < vec_capacity items.new }
-{
-    let at = place_of(items, page)?;
-    Some(items.remove(at))
-}
-
-// Puts the item of a page that has none into its place.
-fn put(items: &mut Vec<Queued>, item: Queued)
-    requires ordered { InOrder items.old.items }
-    requires fresh { find_page items.old.items item.page.0 ≡ None }
-    requires room { length items.old.items < vec_capacity items.old }
-    ensures pages { (p : ℕ) → find_page items.new.items p ≡ cond (item.page.0 == p) (Some item) (find_page items.old.items p) }
-    ensures ordered { InOrder items.new.items }
-    ensures room { vec_capacity items.new ≡ vec_capacity items.old }
-{
-    let at = place_for(items, &item);
-    if items.insert(at, item).is_err() {
-        unreachable!();
-    }
-}
-
-// The first `max` pages of the items that are due.
-fn due_pages(
-    alloc: Global,
-    items: &[Queued],
-    newest: u64,
-    limit: u32,
-    max: usize,
-) -> Result<Vec<PageNo>, Memory>
-    ensures { IfOk result (λ pages. pages.items ≡ map (λ item. item.page) (take max (filter (is_due newest limit) items.now))) }
-{
-    let mut pages = Vec::new(alloc);
-    for item in items {
-        if pages.len() == max {
-            return Ok(pages);
-        }
-        if !item.is_due(newest, limit) {
-            continue;
-        }
-        pages.push(item.page)?;
-    }
-    Ok(pages)
+    ghost invariant = { λ queues. AreQueues queues.lists queues.seats.items (vec_capacity queues.seats) queues.room };
 }
 
 impl Queues {
@@ -99,7 +37,9 @@ impl Queues {
         ensures { result.items ≡ [] }
     {
         Queues {
-            items: Vec::new(alloc),
+            lists: empty_lists(alloc),
+            seats: Vec::new(alloc),
+            room: 0,
         }
     }
 
@@ -108,7 +48,7 @@ impl Queues {
         ensures value { result ≡ length self.now.items }
         ensures ordered { InOrder self.now.items }
     {
-        self.items.len()
+        self.seats.len()
     }
 
     /// Makes room for so many pages more.
@@ -118,7 +58,17 @@ impl Queues {
         ensures room { self.old.room ≤ self.new.room }
         ensures same { OnErr result (self.new ≡ self.old) }
     {
-        self.items.reserve(pages as usize)
+        let pages = pages as usize;
+        let Some(room) = self.seats.len().checked_add(pages) else {
+            return Err(AllocError);
+        };
+        if room <= self.room {
+            return Ok(());
+        }
+        self.lists.entries.reserve(pages)?;
+        self.seats.reserve(pages)?;
+        self.room = room;
+        Ok(())
     }
 
     /// Puts a page in by its last use, and not cold, or moves it there. A page that is new needs a place.
@@ -128,14 +78,23 @@ impl Queues {
         ensures ordered { InOrder self.new.items }
         ensures room { self.new.room ≡ self.old.room }
     {
-        let _ = take_out(&mut self.items, page);
         let item = Queued {
             page,
             generation,
             place,
             cold: None,
         };
-        put(&mut self.items, item);
+        if let Some(key) = key_of(&self.seats, page.0) {
+            if stays_last(&self.lists, key, &item) {
+                set_item(&mut self.lists.entries, key, item);
+                return;
+            }
+            let _ = take(&mut self.lists, key);
+            let _ = put(&mut self.lists, item);
+            return;
+        }
+        let key = put(&mut self.lists, item);
+        seat_in(&mut self.seats, page.0, key);
     }
 
     /// Moves a page behind those that were called cold before, and before all that weren't.
@@ -144,10 +103,12 @@ impl Queues {
         ensures ordered { InOrder self.new.items }
         ensures room { self.new.room ≡ self.old.room }
     {
-        if let Some(item) = take_out(&mut self.items, page) {
-            let cold = Some(place);
-            put(&mut self.items, Queued { cold, ..item });
-        }
+        let Some(key) = key_of(&self.seats, page.0) else {
+            return;
+        };
+        let item = take(&mut self.lists, key);
+        let cold = Some(place);
+        let _ = put(&mut self.lists, Queued { cold, ..item });
     }
 
     /// Takes a page out. Its place is free again.
@@ -156,7 +117,11 @@ impl Queues {
         ensures ordered { InOrder self.new.items }
         ensures room { self.new.room ≡ self.old.room }
     {
-        let _ = take_out(&mut self.items, page);
+        let Some(key) = key_of(&self.seats, page.0) else {
+            return;
+        };
+        let _ = take(&mut self.lists, key);
+        seat_out(&mut self.seats, page.0);
     }
 
     /// The first `max` pages that are cold or at least `limit` generations older than the newest. An age of seven or more
@@ -170,7 +135,24 @@ impl Queues {
     ) -> Result<PageSeq, Memory>
         ensures { IfOk result (λ pages. pages ≡ map (λ item. item.page) (take max (filter (is_due newest limit) self.now.items))) }
     {
-        let pages = due_pages(alloc, &self.items, newest, limit, max as usize)?;
+        let wanted = Wanted {
+            newest,
+            limit,
+            max: max as usize,
+        };
+        let mut pages = Vec::new(alloc);
+        push_due(
+            &self.lists.entries,
+            self.lists.cold.first,
+            wanted,
+            &mut pages,
+        )?;
+        push_due(
+            &self.lists.entries,
+            self.lists.others.first,
+            wanted,
+            &mut pages,
+        )?;
         Ok(PageSeq::from_vec(pages))
     }
 }
