@@ -1,5 +1,5 @@
 -- What an end, and leave to make pages dirty, make of those who wait, as events.
-use Rattle.std.proofs.Common.{◌≡◌, ℕ, ◌+◌, ◌<◌, ◌≤◌, ◌&&◌, ◌||◌, ◌==◌, Bool, true, false, cond, List, [], ◌∷◌, ◌++◌, ◌-◌, length, map, append_assoc, sym, nat_le, nat_lt, zero, suc, refl, ap, ◌∙◌, arith}
+use Rattle.std.proofs.Common.{◌≡◌, ℕ, ◌+◌, ◌<◌, ◌≤◌, ◌&&◌, ◌||◌, ◌==◌, Bool, true, false, cond, Option, is_some, List, [], ◌∷◌, ◌++◌, ◌-◌, length, map, append_assoc, sym, nat_le, nat_lt, zero, suc, refl, ap, ◌∙◌, arith}
 use Rattle.std.proofs.lemmas.Bool.Decides.{nat_tests}
 use Rattle.up_num.specs.Span.{Span, covers}
 use Rattle.up_num.specs.declared.answers.AskKind.{AskKind}
@@ -11,10 +11,11 @@ use Rattle.up_span.proofs.Ranges.{counts_listed}
 use Rattle.up_asks.specs.Asking.{events_of}
 use Rattle.up_asks.specs.Keeps.{AllFixed}
 use Rattle.up_asks.specs.declared.event.Event.{Event}
+use Rattle.up_model.specs.Deeds.{named}
 use Rattle.up_model.specs.States.{empty_at_end}
 use Rattle.up_model.specs.Asks.{resolves}
 use Rattle.up_model.specs.Ordering.{lists}
-use Rattle.up_model.specs.Reply.{counts_frames, reply}
+use Rattle.up_model.specs.Reply.{counts_frames, same_flag, reply}
 use Rattle.up_model.specs.Changes.{Happens, IsDue}
 use Rattle.up_model.specs.declared.entry.Birth.{Birth}
 use Rattle.up_model.specs.declared.entry.Brought.{Brought}
@@ -87,11 +88,12 @@ freed_step test first place count p goes before after all low at is adds so =
     ap (λ xs. xs ++ rest) (adds ∙ ap (λ xs. before ++ xs) here) ∙ append_assoc before _ rest ∙ ap (λ xs. before ++ xs) (sym more) ∙ so
 
 -- an end frees those who wait to make a page dirty that goes
-pub end_resolves : (birth : Birth) (h : List Entry) (range : Span) (kind : AskKind) (p : ℕ) →
-    resolves birth h (calls.End range) kind p ≡ events_of (map freed_page (list_pages (empty_at_end birth h) range.first range.count)) kind p
-end_resolves birth h range ReadAsk p = rw (freed_unread (list_pages (empty_at_end birth h) range.first range.count) p) refl
-end_resolves birth h range DirtyAsk p =
-    rw (freed_listed (list_pages (empty_at_end birth h) range.first range.count) p, listed (empty_at_end birth h) range.first range.count p) refl
+pub end_resolves : (birth : Birth) (h : List Entry) (range : Span) (of : Option ℕ) (kind : AskKind) (p : ℕ) →
+    resolves birth h (calls.End range of) kind p ≡ events_of (map freed_page (list_pages (empty_at_end birth h (named birth (calls.End range of))) range.first range.count)) kind p
+end_resolves birth h range of ReadAsk p = rw (freed_unread (list_pages (empty_at_end birth h (named birth (calls.End range of))) range.first range.count) p) refl
+end_resolves birth h range of DirtyAsk p =
+    let test = empty_at_end birth h (named birth (calls.End range of)) in
+    rw (freed_listed (list_pages test range.first range.count) p, listed test range.first range.count p) refl
 
 one_waits : (b : Bool) → cond b Freed Waiting ≡ then_outcome (cond b Freed Waiting) Waiting
 one_waits true = refl
@@ -104,9 +106,15 @@ dirty_resolves birth h range brought ReadAsk p = refl
 dirty_resolves birth h range brought DirtyAsk p = one_waits (covers range p)
 
 -- what an accepted end makes of those who wait
-pub end_happens : (birth : Birth) (h : List Entry) (who epoch : ℕ) (range : Span) (woken : List ℕ) →
-    Happens birth (record { who = who; epoch = epoch; call = calls.End range; reply = Woke woken }) h (events_of (map freed_page (list_pages (empty_at_end birth h) range.first range.count)))
-end_happens birth h who epoch range woken = record { accepted = refl; no_packet = refl; attached = refl; each = λ kind p. end_resolves birth h range kind p }
+pub end_happens : (birth : Birth) (h : List Entry) (who epoch : ℕ) (range : Span) (of : Option ℕ) (woken : List ℕ) →
+    Happens birth (record { who = who; epoch = epoch; call = calls.End range of; reply = Woke woken }) h
+    (events_of (map freed_page (list_pages (empty_at_end birth h (named birth (calls.End range of))) range.first range.count)))
+end_happens birth h who epoch range of woken = record { accepted = refl; no_packet = refl; attached = refl; each = λ kind p. end_resolves birth h range of kind p }
+
+-- the entry of an end that is accepted
+pub end_due : (birth : Birth) (h : List Entry) (who epoch : ℕ) (range : Span) (of : Option ℕ) (woken : List ℕ) → same_flag birth.numbered (is_some of) ≡ true →
+    reply birth h who epoch (calls.End range of) ≡ Woke woken → IsDue birth (record { who = who; epoch = epoch; call = calls.End range of; reply = Woke woken }) h
+end_due birth h who epoch range of woken fits due = record { properly = fits; answer = sym due }
 
 -- the entry of leave to make pages dirty that is given
 pub dirty_due : (birth : Birth) (h : List Entry) (who epoch : ℕ) (range : Span) (brought : Brought) (woken : List ℕ) → counts_frames brought ≡ true →

@@ -12,6 +12,7 @@ ghost use Rattle.up_object.specs.Parts.{shown};
 ghost use Rattle.up_object.specs.Change.{next, AllOwn};
 ghost use Rattle.up_object.specs.Whole.{after, held};
 ghost use Rattle.up_object.specs.Steps.{Steps, further};
+ghost use Rattle.up_clean.specs.Ends.{begun_reply};
 
 use core::mem::replace_with;
 use std::alloc::Global;
@@ -22,8 +23,8 @@ use up_object::parts::{Changing, open};
 use up_object::{By, Declined, Object, Step, Stepped, count_of, decline, end_of, first_of};
 use up_pages::{Frames, Look};
 
-/// Begins the writeback of the unclean pages of a range, or of its zero pages alone. It answers `Done`, or `Refused(Range)` where
-/// the range passes the object's size.
+/// Begins the writeback of the unclean pages of a range, or of its zero pages alone. It answers `Done`, on a numbered object `Began` with
+/// the number that an end names, or `Refused(Range)` where the range passes the object's size.
 pub fn begin(
     object: &mut Object,
     alloc: Global,
@@ -95,7 +96,8 @@ fn begin_within(object: Object, beginning: Beginning) -> (Object, Step)
     let alloc = beginning.alloc;
     let first = first_of(beginning.range);
     let limit = end_of(beginning.range);
-    let entry = beginning.by.entry(beginning.call(), Reply::Done);
+    let number = number_of(&object);
+    let entry = beginning.by.entry(beginning.call(), begun(number));
     let none = Frames::new(alloc);
     match open(
         object,
@@ -109,10 +111,31 @@ fn begin_within(object: Object, beginning: Beginning) -> (Object, Step)
         Ok(mut changing) => {
             begin_pages(&mut changing, beginning.range, beginning.zero);
             let (object, back) = changing.close(first, limit);
-            let reply = Reply::Done;
+            let reply = begun(number);
             (object, Ok(Stepped { reply, back }))
         }
         Err((memory, object, given)) => (object, Err((memory, given))),
+    }
+}
+
+/// The number that a begin gets, on a numbered object.
+fn number_of(object: &Object) -> Option<u64>
+    ensures { begun_reply result ≡ replies.begin_reply object.now.birth object.now.journal }
+{
+    if object.born().numbered {
+        Some(object.next_number())
+    } else {
+        None
+    }
+}
+
+/// What a begin answers, by the number that it gets.
+fn begun(number: Option<u64>) -> Reply
+    ensures { result ≡ begun_reply number }
+{
+    match number {
+        None => Reply::Done,
+        Some(number) => Reply::Began(number),
     }
 }
 

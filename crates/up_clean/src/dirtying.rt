@@ -5,14 +5,13 @@ ghost use Rattle.up_bank.specs.declared.kind.FrameKind.TheVariants.{Ordinary as 
 ghost use Rattle.up_pages.specs.Frames.{count_kind};
 ghost use Rattle.up_model.specs.Attempts.{accepts};
 ghost use Rattle.up_model.specs.Size.{range_fits};
-ghost use Rattle.up_model.specs.Looks as looks;
 ghost use Rattle.up_model.specs.Pins as pinning;
 ghost use Rattle.up_model.specs.Tickets.{woken};
 ghost use Rattle.up_model.specs.Reply as replies;
 ghost use Rattle.up_model.specs.declared.entry.Call.TheVariants.{Dirty as DirtyCall};
 ghost use Rattle.up_model.specs.declared.entry.Reply.{Reply as ReplyValue};
 ghost use Rattle.up_model.specs.declared.entry.Reply.TheVariants.{Woke};
-ghost use Rattle.up_object.specs.Parts.{shown, bank_of, is_loan};
+ghost use Rattle.up_object.specs.Parts.{bank_of, is_loan};
 ghost use Rattle.up_object.specs.Change.{next_using, AllAre, AllOwn};
 ghost use Rattle.up_object.specs.Whole.{after, held};
 ghost use Rattle.up_object.specs.Steps.{Steps, brought_of, frames_of, or_declined, declined_reply};
@@ -23,12 +22,12 @@ use std::alloc::Global;
 use up_asks::Event;
 use up_bank::FrameKind;
 use up_model::{Brought, Call, Reply};
-use up_num::{AskKind, Memory, Outcome, PageNo, PageRange, PageState, Refusal, Woken};
+use up_num::{AskKind, Memory, Outcome, PageNo, PageRange, Refusal, Woken};
 use up_object::parts::{Changing, open_asking};
 use up_object::{
     By, Declined, FramesIn, Object, Step, Stepped, count_of, decline, end_of, first_of, lacking,
 };
-use up_pages::{Frames, Look};
+use up_pages::Frames;
 
 /// Lets the pages of a range get dirty. It answers `Woke` with the tickets of those who waited for it; `Needs` where a loaned frame has
 /// to be exchanged and too few are given; or why it is refused: `Range`, `NotTrap` where the object doesn't ask before a page gets
@@ -232,18 +231,5 @@ fn dirty_page(changing: &mut Changing, range: PageRange, brought: Brought)
     requires frame { lent changing.old.birth changing.old.journal changing.old.done.mark ≡ true → 0 < changing.old.given }
     ensures { changing.new ≡ next_using (lent changing.old.birth changing.old.journal changing.old.done.mark) changing.old }
 {
-    if is_lent(changing.look()) {
-        changing.reframe(PageState::Dirty);
-    } else {
-        changing.set_state(PageState::Dirty);
-    }
-}
-
-fn is_lent(look: Look) -> bool
-    ensures { result ≡ looks.has_loan (shown look) }
-{
-    match look {
-        Look::Held(_, FrameKind::Loaned) => true,
-        _ => false,
-    }
+    changing.dirty();
 }

@@ -1,20 +1,25 @@
-ghost use Rattle.std.specs.Prelude.{◌≡◌, ℕ, ◌+◌, ◌<◌, ◌≤◌, ◌^◌, [], ◌∷◌, ◌++◌, true, false, cond, length, map, IfOk, IfErr, OnOk, OnErr};
+ghost use Rattle.std.specs.Prelude.{◌≡◌, ℕ, ◌+◌, ◌<◌, ◌≤◌, ◌^◌, [], ◌∷◌, ◌++◌, not, true, false, cond, length, map, is_some, IfOk, IfErr, OnOk, OnErr, IsNone, IsTrue};
 ghost use Rattle.up_num.specs.Span.{covers};
 ghost use Rattle.up_span.specs.Pages.{list_pages};
 ghost use Rattle.up_bank.specs.declared.kind.FrameKind.{FrameKind as FrameKindValue};
 ghost use Rattle.up_pages.specs.Frames.{count_kind};
 ghost use Rattle.up_model.specs.Attempts.{accepts};
+ghost use Rattle.up_num.specs.declared.answers.Refusal.TheVariants.{Range as RangeRefusal};
 ghost use Rattle.up_model.specs.Size.{range_fits};
+ghost use Rattle.up_model.specs.Deeds.{named};
 ghost use Rattle.up_model.specs.States.{empty_at_end};
 ghost use Rattle.up_model.specs.Looks.{ended_look, with_state};
 ghost use Rattle.up_model.specs.Tickets.{woken};
 ghost use Rattle.up_model.specs.Reply as replies;
 ghost use Rattle.up_model.specs.declared.entry.Call.TheVariants.{End};
+ghost use Rattle.up_model.specs.declared.entry.Reply.{Reply as ReplyValue};
+ghost use Rattle.up_model.specs.declared.entry.Reply.TheVariants.{Woke};
 ghost use Rattle.up_object.specs.Parts.{shown};
 ghost use Rattle.up_object.specs.Change.{next, AllOwn};
 ghost use Rattle.up_object.specs.Whole.{after, held};
 ghost use Rattle.up_object.specs.Steps.{Steps, further};
 ghost use Rattle.up_clean.specs.Ends.{goes_at_end, freed_page};
+ghost use Rattle.up_clean.specs.Dirties.{or_refused};
 
 use core::mem::replace_with;
 use std::alloc::Global;
@@ -26,18 +31,34 @@ use up_object::parts::{Changing, open_asking};
 use up_object::{By, Declined, Object, Step, Stepped, count_of, decline, end_of, first_of};
 use up_pages::{Frames, Look};
 
-/// Ends the writeback of a range: what awaits that is clean, and zero pages that await it go. It answers `Woke` with the tickets of
-/// those who waited to make a page dirty that goes, or `Refused(Range)` where the range passes the object's size.
-pub fn end(object: &mut Object, alloc: Global, who: u32, epoch: u64, range: PageRange) -> Step
-    ensures reply { IfOk result (λ s. s.reply ≡ replies.reply object.old.birth object.old.journal who epoch (End range)) }
-    ensures object { OnOk result (object.new ≡ after object.old who epoch (End range)) }
+/// Ends the writeback of a range: what awaits that is clean, and zero pages that await it go. On a numbered object it names the begin that
+/// it ends, and is for the pages for which that one counts and that weren't dirtied since. It answers `Woke` with the tickets of those who
+/// waited to make a page dirty that goes, or why it is refused: `Range` where the range passes the object's size, `NotBegun` where no begin
+/// got the number.
+pub fn end(
+    object: &mut Object,
+    alloc: Global,
+    who: u32,
+    epoch: u64,
+    range: PageRange,
+    of: Option<u64>,
+) -> Step
+    requires proper { IsTrue (replies.proper object.old.birth object.old.journal who (End range of)) }
+    ensures reply { IfOk result (λ s. s.reply ≡ replies.reply object.old.birth object.old.journal who epoch (End range of)) }
+    ensures object { OnOk result (object.new ≡ after object.old who epoch (End range of)) }
     ensures frames { IfOk result (λ s. (kind : FrameKindValue) → count_kind kind s.back.items + held object.new.birth object.new.journal kind ≡ held object.old.birth object.old.journal kind) }
     ensures own { IfOk result (λ s. AllOwn object.old.banks s.back.items) }
     ensures same { OnErr result (object.new ≡ object.old) }
     ensures back { IfErr result (λ failed. failed.1.items ≡ []) }
 {
     let by = By { who, epoch };
-    replace_with(object, Ending { alloc, by, range }, end_range)
+    let ending = Ending {
+        alloc,
+        by,
+        range,
+        of,
+    };
+    replace_with(object, ending, end_range)
 }
 
 #[derive(Clone, Copy)]
@@ -45,42 +66,74 @@ struct Ending {
     alloc: Global,
     by: By,
     range: PageRange,
+    of: Option<u64>,
 }
 
 impl Ending {
     fn call(&self) -> Call
-        ensures { result ≡ End self.now.range }
+        ensures { result ≡ End self.now.range self.now.of }
     {
-        Call::End { range: self.range }
+        Call::End {
+            range: self.range,
+            of: self.of,
+        }
     }
 }
 
 fn end_range(object: Object, ending: Ending) -> (Object, Step)
-    ensures { Steps object result.0 result.1 ending.by.who ending.by.epoch (End ending.range) [] }
+    requires proper { IsTrue (replies.proper object.birth object.journal ending.by.who (End ending.range ending.of)) }
+    ensures { Steps object result.0 result.1 ending.by.who ending.by.epoch (End ending.range ending.of) [] }
 {
     let alloc = ending.alloc;
-    if object.has_range(ending.range) {
+    let Some(why) = refusal(&object, ending.range, ending.of) else {
         return end_within(object, ending);
-    }
-    let why = Declined::Refused(Refusal::Range);
+    };
     let none = Frames::new(alloc);
     decline(
         object,
         alloc,
         ending.by,
         ending.call(),
-        why,
+        Declined::Refused(why),
         FrameKind::Ordinary,
         none,
     )
 }
 
+/// Why an end is refused.
+fn refusal(object: &Object, range: PageRange, of: Option<u64>) -> Option<Refusal>
+    ensures reply { (next : ReplyValue) → replies.refuse_where (not (range_fits object.now.birth object.now.journal range)) RangeRefusal (replies.refuse_unbegun object.now.journal of next) ≡ or_refused result next }
+    ensures fits { IsNone result → range_fits object.now.birth object.now.journal range ≡ true }
+{
+    if !object.has_range(range) {
+        return Some(Refusal::Range);
+    }
+    unbegun(object, of)
+}
+
+/// The refusal of a number that no begin got.
+fn unbegun(object: &Object, of: Option<u64>) -> Option<Refusal>
+    ensures { (next : ReplyValue) → replies.refuse_unbegun object.now.journal of next ≡ or_refused result next }
+{
+    match of {
+        None => None,
+        Some(number) => {
+            if object.has_begun(number) {
+                return None;
+            }
+            Some(Refusal::NotBegun(number))
+        }
+    }
+}
+
 fn end_within(object: Object, ending: Ending) -> (Object, Step)
+    requires proper { IsTrue (replies.proper object.birth object.journal ending.by.who (End ending.range ending.of)) }
     requires fits { range_fits object.birth object.journal ending.range ≡ true }
-    ensures { Steps object result.0 result.1 ending.by.who ending.by.epoch (End ending.range) [] }
+    requires due { replies.reply object.birth object.journal ending.by.who ending.by.epoch (End ending.range ending.of) ≡ Woke (woken object.birth object.journal (End ending.range ending.of)) }
+    ensures { Steps object result.0 result.1 ending.by.who ending.by.epoch (End ending.range ending.of) [] }
 {
     let alloc = ending.alloc;
-    let Ok(events) = freed_by_end(&object, alloc, ending.range) else {
+    let Ok(events) = freed_by_end(&object, alloc, ending.range, ending.of) else {
         return (object, Err((Memory {}, Frames::new(alloc))));
     };
     let Ok(woke) = object.waking(alloc, &events) else {
@@ -100,11 +153,12 @@ fn end_freeing(
     woke: Woken,
     noted: Woken,
 ) -> (Object, Step)
+    requires proper { IsTrue (replies.proper object.birth object.journal ending.by.who (End ending.range ending.of)) }
     requires fits { range_fits object.birth object.journal ending.range ≡ true }
-    requires events { events.now.items ≡ map freed_page (list_pages (empty_at_end object.birth object.journal) ending.range.first ending.range.count) }
-    requires wakes { woke ≡ woken object.birth object.journal (End ending.range) }
-    requires notes { noted ≡ woken object.birth object.journal (End ending.range) }
-    ensures { Steps object result.0 result.1 ending.by.who ending.by.epoch (End ending.range) [] }
+    requires events { events.now.items ≡ map freed_page (list_pages (empty_at_end object.birth object.journal (named object.birth (End ending.range ending.of))) ending.range.first ending.range.count) }
+    requires due { replies.reply object.birth object.journal ending.by.who ending.by.epoch (End ending.range ending.of) ≡ Woke woke }
+    requires notes { noted ≡ woke }
+    ensures { Steps object result.0 result.1 ending.by.who ending.by.epoch (End ending.range ending.of) [] }
 {
     let alloc = ending.alloc;
     let none = Frames::new(alloc);
@@ -124,7 +178,7 @@ fn end_freeing(
         changes,
     ) {
         Ok(mut changing) => {
-            end_pages(&mut changing, ending.range);
+            end_pages(&mut changing, ending.range, ending.of);
             changing.resolve(events);
             let (object, back) = changing.close(first, limit);
             let reply = Reply::Woke(woke);
@@ -135,15 +189,21 @@ fn end_freeing(
 }
 
 /// What an end over a range makes of those who wait: for each page that goes, leave for those who wait to make it dirty.
-fn freed_by_end(object: &Object, alloc: Global, range: PageRange) -> Result<Vec<Event>, Memory>
-    ensures { IfOk result (λ events. events.items ≡ map freed_page (list_pages (empty_at_end object.now.birth object.now.journal) range.first range.count)) }
+fn freed_by_end(
+    object: &Object,
+    alloc: Global,
+    range: PageRange,
+    of: Option<u64>,
+) -> Result<Vec<Event>, Memory>
+    requires proper { replies.same_flag object.now.birth.numbered (is_some of) ≡ true }
+    ensures { IfOk result (λ events. events.items ≡ map freed_page (list_pages (empty_at_end object.now.birth object.now.journal (named object.now.birth (End range of))) range.first range.count)) }
 {
     let first = first_of(range);
     let _ = end_of(range);
     let mut events = Vec::new(alloc);
     for place in 0..count_of(range) {
         let page = first + place;
-        add_where(&mut events, page, is_emptied(object, page))?;
+        add_where(&mut events, page, is_emptied(object, page, range, of))?;
     }
     Ok(events)
 }
@@ -167,62 +227,65 @@ fn add_where(events: &mut Vec<Event>, page: u32, goes: bool) -> Result<(), Memor
     Ok(())
 }
 
-/// Whether an end empties a page.
-fn is_emptied(object: &Object, page: u32) -> bool
-    ensures { result ≡ empty_at_end object.now.birth object.now.journal page }
+/// Whether an end over this range, which names this begin or none, empties a page of it.
+fn is_emptied(object: &Object, page: u32, range: PageRange, of: Option<u64>) -> bool
+    requires proper { replies.same_flag object.now.birth.numbered (is_some of) ≡ true }
+    ensures { result ≡ empty_at_end object.now.birth object.now.journal (named object.now.birth (End range of)) page }
 {
-    goes(object.look(PageNo(page)))
+    let page = PageNo(page);
+    goes(object.look(page), object.is_ended(page, of))
 }
 
 /// Ends the writeback of the pages of a range.
-fn end_pages(changing: &mut Changing, range: PageRange)
-    requires call { changing.old.entry.call ≡ End range }
+fn end_pages(changing: &mut Changing, range: PageRange, of: Option<u64>)
+    requires proper { replies.same_flag changing.old.birth.numbered (is_some of) ≡ true }
+    requires call { changing.old.entry.call ≡ End range of }
     requires accepted { accepts changing.old.entry.reply ≡ true }
     requires at { changing.old.done.mark ≡ range.first }
     requires limit { changing.old.done.limit ≡ range.first + range.count }
     ensures { changing.new ≡ further range.count changing.old }
 {
     for _place in 0..count_of(range) {
-        end_page(changing, range);
+        end_page(changing, range, of);
     }
 }
 
 /// Ends the writeback of the page at the mark.
-fn end_page(changing: &mut Changing, range: PageRange)
+fn end_page(changing: &mut Changing, range: PageRange, of: Option<u64>)
+    requires proper { replies.same_flag changing.old.birth.numbered (is_some of) ≡ true }
     requires left { changing.old.done.mark < changing.old.done.limit }
-    requires call { changing.old.entry.call ≡ End range }
+    requires call { changing.old.entry.call ≡ End range of }
     requires accepted { accepts changing.old.entry.reply ≡ true }
     requires inside { covers range changing.old.done.mark ≡ true }
     ensures { changing.new ≡ next changing.old }
 {
     let look = changing.look();
-    if goes(look) {
+    let ended = changing.is_ended(of);
+    if goes(look, ended) {
         changing.drop_page();
     } else {
-        changing.set_state(ended_state(look));
+        changing.set_state(ended_state(look, ended));
     }
 }
 
-/// Whether a page goes at the end of its writeback.
-fn goes(look: Look) -> bool
-    ensures { result ≡ goes_at_end (shown look) }
+/// Whether a page goes at an end: a zero page that the end is for, and that isn't clean.
+fn goes(look: Look, ended: bool) -> bool
+    ensures { result ≡ goes_at_end ended (shown look) }
 {
     match look {
-        Look::Zero(PageState::AwaitingClean) => true,
+        Look::Zero(_) => ended,
         _ => false,
     }
 }
 
-/// The state that a page which stays has after the end of its writeback.
-fn ended_state(look: Look) -> PageState
-    requires { goes_at_end (shown look) ≡ false }
-    ensures { with_state result (shown look) ≡ ended_look (shown look) }
+/// The state that a page which stays has after an end, by whether the end is for it.
+fn ended_state(look: Look, ended: bool) -> PageState
+    requires { goes_at_end ended (shown look) ≡ false }
+    ensures { with_state result (shown look) ≡ ended_look ended (shown look) }
 {
     match look {
         Look::Absent => PageState::Clean,
-        Look::Zero(PageState::Clean) => PageState::Clean,
-        Look::Zero(_) => PageState::Dirty,
-        Look::Held(PageState::Dirty, _) => PageState::Dirty,
-        Look::Held(_, _) => PageState::Clean,
+        Look::Zero(state) => state,
+        Look::Held(state, _) => { if ended { PageState::Clean } else { state } }
     }
 }

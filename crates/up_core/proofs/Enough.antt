@@ -12,13 +12,14 @@ use Rattle.up_num.specs.declared.pages.PageNo.{PageNo}
 use Rattle.up_model.specs.Attempts.{Access, page_of, parked}
 use Rattle.up_model.specs.Roles.{detached, in_role}
 use Rattle.up_model.specs.Packets.{sent, taken}
+use Rattle.up_model.specs.Numbers.{next_number, has_begun}
 use Rattle.up_model.specs.Size.{size, range_fits, access_fits}
 use Rattle.up_model.specs.Value.{value, there}
 use Rattle.up_model.specs.States.{plain, unclean, dirty}
 use Rattle.up_model.specs.Pins.{loaned}
 use Rattle.up_model.specs.Pages.{page_number, first_page}
 use Rattle.up_model.specs.Tickets.{next_ticket, woken, outcome}
-use Rattle.up_model.specs.Reply.{proper, is_scan, frames_in, refuse_where, refuse_at, with_frames, one_where, must_wait, touch_reply, access_reply, retry_reply, first_in, count_in, absent, missing, needs_own_frame, is_pinned, is_full_of_pins, loaned_firm, loaned_loose, pages_where, resize_reply, packet_reply, is_unpinned, reply}
+use Rattle.up_model.specs.Reply.{proper, is_scan, frames_in, refuse_where, refuse_at, refuse_unbegun, with_frames, one_where, must_wait, touch_reply, access_reply, retry_reply, first_in, count_in, absent, missing, needs_own_frame, is_pinned, is_full_of_pins, loaned_firm, loaned_loose, pages_where, resize_reply, packet_reply, is_unpinned, reply}
 use Rattle.up_model.specs.declared.entry.Birth.{Birth}
 use Rattle.up_model.specs.declared.entry.Brought.{Brought}
 use Rattle.up_model.specs.declared.entry.Brought.TheVariants.{Nothing, Frames, Scanned}
@@ -110,6 +111,10 @@ cond_none : (test : Bool) (one other : Reply) → frames_asked one ≡ 0 → fra
 cond_none true one other first second = first
 cond_none false one other first second = second
 
+unbegun_none : (h : List Entry) (of : Option ℕ) (next : Reply) → frames_asked next ≡ 0 → frames_asked (refuse_unbegun h of next) ≡ 0
+unbegun_none h None next none = none
+unbegun_none h (Some n) next none = where_none (not (has_begun h n)) (refusal.NotBegun n) next none
+
 resize_none : (birth : Birth) (h : List Entry) (pages : ℕ) (limit : Option ℕ) → frames_asked (resize_reply birth h pages limit) ≡ 0
 resize_none birth h pages None = refl
 resize_none birth h pages (Some limit) = where_none (nat_lt limit pages) _ _ (at_none (first_page (λ p. nat_le pages p && is_pinned h p) 0 (size birth h)) _ _ refl)
@@ -120,8 +125,8 @@ packet_none birth h None = cond_none (detached birth h) answer.Finished answer.E
 
 pub none_asked : (birth : Birth) (h : List Entry) (who epoch : ℕ) (call : Call) → takes_frames call ≡ false → frames_asked (reply birth h who epoch call) ≡ 0
 none_asked birth h who epoch (calls.Fail range code) other = where_none (not (range_fits birth h range)) _ _ (where_none (detached birth h) _ _ refl)
-none_asked birth h who epoch (calls.Begin range only_zero) other = where_none (not (range_fits birth h range)) _ _ refl
-none_asked birth h who epoch (calls.End range) other = where_none (not (range_fits birth h range)) _ _ refl
+none_asked birth h who epoch (calls.Begin range only_zero) other = where_none (not (range_fits birth h range)) _ _ (cond_none birth.numbered (answer.Began (next_number h)) answer.Done refl refl)
+none_asked birth h who epoch (calls.End range of) other = where_none (not (range_fits birth h range)) _ _ (unbegun_none h of _ refl)
 none_asked birth h who epoch (calls.Query range room) other = where_none (not (range_fits birth h range)) _ _ refl
 none_asked birth h who epoch (calls.Stats reset) other = refl
 none_asked birth h who epoch (calls.Hint range kind) other = where_none (not (range_fits birth h range)) _ _ refl
@@ -242,7 +247,7 @@ enough_suffices birth h who epoch call = λ b scan enough. none_asked birth h wh
 
 -- what holds of journals without frames holds of two that are the same but for them
 pub proper_alike : ProperWithoutFrames
-proper_alike h other who call same = sym (proper_same h who call) ∙ ap (λ (j : List Entry). proper j who call) same ∙ proper_same other who call
+proper_alike birth h other who call same = sym (proper_same birth h who call) ∙ ap (λ (j : List Entry). proper birth j who call) same ∙ proper_same birth other who call
 
 pub bytes_alike : BytesWithoutFrames
 bytes_alike birth h other x same = sym ((bytes_same birth h).values x) ∙ ap (λ (j : List Entry). value birth j x) same ∙ (bytes_same birth other).values x

@@ -101,15 +101,15 @@ needs_nothing birth h call is = sym (none_asked birth h 0 0 call refl)
 pub some_bytes : (off len : ℕ) → within_page off len ≡ true → 0 < len
 some_bytes off len is = let some : nat_lt 0 len ≡ true = (and_parts (nat_lt 0 len) _ is).0 in grind (arith, nat_tests)
 
-pub write_some : (h : List Entry) (who off : ℕ) (bytes : List ℕ) (last : PageNo) (brought : Brought) → proper h who (calls.Write off bytes last brought) ≡ true → 0 < length bytes
-write_some h who off bytes last brought is = some_bytes off (length bytes) (and_parts (within_page off (length bytes)) _ (and_parts _ _ is).0).0
+pub write_some : (birth : Birth) (h : List Entry) (who off : ℕ) (bytes : List ℕ) (last : PageNo) (brought : Brought) → proper birth h who (calls.Write off bytes last brought) ≡ true → 0 < length bytes
+write_some birth h who off bytes last brought is = some_bytes off (length bytes) (and_parts (within_page off (length bytes)) _ (and_parts _ _ is).0).0
 
 by_some : (o : Option ℕ) (who : ℕ) → is_by o who ≡ true → is_some o ≡ true
 by_some None who is = absurd cc
 by_some (Some holder) who is = refl
 
-pub retry_held : (h : List Entry) (who ticket : ℕ) (brought : Brought) → proper h who (calls.Retry ticket brought) ≡ true → (is_some (owner h ticket) ≡ true) × (spent h ticket ≡ false)
-retry_held h who ticket brought is =
+pub retry_held : (birth : Birth) (h : List Entry) (who ticket : ℕ) (brought : Brought) → proper birth h who (calls.Retry ticket brought) ≡ true → (is_some (owner h ticket) ≡ true) × (spent h ticket ≡ false)
+retry_held birth h who ticket brought is =
     let parts = and_parts (is_by (owner h ticket) who) _ is in
     (by_some (owner h ticket) who parts.0, not_true (spent h ticket) (and_parts (not (spent h ticket)) _ parts.1).0)
 

@@ -2,9 +2,10 @@
 use Rattle.std.proofs.Common.{◌≡◌, ℕ, ◌-◌, ◌==◌, ◌&&◌, ◌||◌, not, Bool, cond, Option, Some, List, [], ◌∷◌, suc, max, refl, ap, ◌∙◌}
 use Rattle.up_model.specs.Attempts.{Access, page_of, accepts, is_blocked, blocks, is_done, is_bytes, attempt_of, parked, attempt}
 use Rattle.up_model.specs.Size.{resized, size, asks_to_grow, asks_to_cut, grows, cuts}
-use Rattle.up_model.specs.Deeds.{writes_in, reads_in, writes, reads, over_supply, over_dirty, over_begin, over_end, over_pin, over_unpin, over_zero, over_always, over_cold, for_zero, supplies, lets_dirty, begins, ends, pins_one, unpins_one, zeroes, hints_always, hints_cold, says_evicted, says_moved, reclaims, evicts, moves, of_borrow, says_borrowed, borrows, blanks, dirties, drops, supplied}
+use Rattle.up_model.specs.Deeds.{writes_in, reads_in, writes, reads, over_supply, over_dirty, over_begin, over_end, over_pin, over_unpin, over_zero, over_always, over_cold, for_zero, named, began_as, supplies, lets_dirty, begins, ends, pins_one, unpins_one, zeroes, hints_always, hints_cold, says_evicted, says_moved, reclaims, evicts, moves, of_borrow, says_borrowed, borrows, blanks, dirties, drops, supplied}
 use Rattle.up_model.specs.Roles.{leaves_user, leaves_pager, is_left, is_detach, users, pagers, in_role, was_detached, detached}
 use Rattle.up_model.specs.Pins.{pins, always, ends_loan, loaned}
+use Rattle.up_model.specs.Numbers.{is_began, next_number, has_begun}
 use Rattle.up_model.specs.Packets.{is_packet, taken}
 use Rattle.up_model.specs.Tickets.{next_ticket, owner, retries, keeps_ticket, spent}
 use Rattle.up_model.specs.Use.{newest_epoch}
@@ -50,7 +51,7 @@ begin_bare (calls.Begin range zero) p = refl
 begin_bare _ p = refl
 
 end_bare : (c : Call) (p : ℕ) → over_end (bringing Nothing c) p ≡ over_end c p
-end_bare (calls.End range) p = refl
+end_bare (calls.End range of) p = refl
 end_bare _ p = refl
 
 pin_bare : (c : Call) (p : ℕ) → over_pin (bringing Nothing c) p ≡ over_pin c p
@@ -84,6 +85,10 @@ reclaims_bare _ = refl
 borrow_bare : (c : Call) (p : ℕ) → of_borrow (bringing Nothing c) p ≡ of_borrow c p
 borrow_bare (calls.Borrow page brought) p = refl
 borrow_bare _ p = refl
+
+pub named_bare : (birth : Birth) (c : Call) → named birth (bringing Nothing c) ≡ named birth c
+named_bare birth (calls.End range of) = refl
+named_bare birth _ = refl
 
 pub supplied_bare : (c : Call) (x : ℕ) → supplied (bringing Nothing c) x ≡ supplied c x
 supplied_bare (calls.Supply range bytes brought) x = refl
@@ -240,6 +245,15 @@ owner_same (e ∷ before) t = λ i. cond (blocks e.reply t) (Some e.who) (owner_
 pub spent_same : (h : List Entry) (t : ℕ) → spent (all_bare h) t ≡ spent h t
 spent_same [] t = refl
 spent_same (e ∷ before) t = λ i. (retries_bare e.call t i && not (keeps_ticket e.reply)) || spent_same before t i
+
+-- numbers of begins
+pub next_number_same : (h : List Entry) → next_number (all_bare h) ≡ next_number h
+next_number_same [] = refl
+next_number_same (e ∷ before) = λ i. cond (is_began e.reply) (suc (next_number_same before i)) (next_number_same before i)
+
+pub has_begun_same : (h : List Entry) (n : ℕ) → has_begun (all_bare h) n ≡ has_begun h n
+has_begun_same [] n = refl
+has_begun_same (e ∷ before) n = λ i. began_as e.reply n || has_begun_same before n i
 
 pub taken_same : (h : List Entry) → taken (all_bare h) ≡ taken h
 taken_same [] = refl

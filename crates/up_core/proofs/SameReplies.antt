@@ -14,7 +14,7 @@ use Rattle.up_model.specs.Tickets.{woken, outcome}
 use Rattle.up_model.specs.Packets.{sent, taken}
 use Rattle.up_model.specs.Use.{newest_epoch}
 use Rattle.up_model.specs.Order.{order}
-use Rattle.up_model.specs.Reply.{counts_frames, is_scan, is_by, proper, refuse_where, refuse_at, with_frames, one_where, must_wait, touch_reply, access_reply, retry_reply, packet_reply, first_in, count_in, absent, missing, needs_own_frame, is_pinned, is_unpinned, is_full_of_pins, unclean_kind, dirty_run, unclean_runs, ranges_reply, loaned_firm, loaned_loose, pages_where, resize_reply, reply}
+use Rattle.up_model.specs.Reply.{counts_frames, is_scan, is_by, proper, refuse_where, refuse_at, begin_reply, refuse_unbegun, with_frames, one_where, must_wait, touch_reply, access_reply, retry_reply, packet_reply, first_in, count_in, absent, missing, needs_own_frame, is_pinned, is_unpinned, is_full_of_pins, unclean_kind, dirty_run, unclean_runs, ranges_reply, loaned_firm, loaned_loose, pages_where, resize_reply, reply}
 use Rattle.up_model.specs.declared.entry.Birth.{Birth}
 use Rattle.up_model.specs.declared.entry.Brought.{Brought}
 use Rattle.up_model.specs.declared.entry.Call.{Call}
@@ -23,13 +23,13 @@ use Rattle.up_model.specs.declared.entry.Entry.{Entry}
 use Rattle.up_model.specs.declared.entry.Reply.{Reply}
 use Rattle.up_model.specs.declared.entry.Reply.TheVariants as answer
 use Rattle.up_core.specs.Enough.{all_bare}
-use Rattle.up_core.proofs.Same.{parked_same, size_same, detached_same, in_role_same, next_ticket_same, owner_same, spent_same, taken_same, newest_same, pins_same, loaned_same, modified_same}
+use Rattle.up_core.proofs.Same.{parked_same, size_same, detached_same, in_role_same, next_ticket_same, owner_same, spent_same, next_number_same, has_begun_same, taken_same, newest_same, pins_same, loaned_same, modified_same}
 use Rattle.up_core.proofs.SamePages.{there_same, plain_same, unclean_same, dirty_same, bytes_from_same}
 use Rattle.up_core.proofs.SameWaiters.{loose_same, order_same, sent_same, outcome_same, woken_same}
 
-pub proper_same : (h : List Entry) (who : ℕ) (c : Call) → proper (all_bare h) who c ≡ proper h who c
-proper_same h who (calls.Retry ticket brought) = λ i. is_by (owner_same h ticket i) who && (not (spent_same h ticket i) && counts_frames brought)
-proper_same h who _ = refl
+pub proper_same : (birth : Birth) (h : List Entry) (who : ℕ) (c : Call) → proper birth (all_bare h) who c ≡ proper birth h who c
+proper_same birth h who (calls.Retry ticket brought) = λ i. is_by (owner_same h ticket i) who && (not (spent_same h ticket i) && counts_frames brought)
+proper_same birth h who _ = refl
 
 fits_same : (birth : Birth) (h : List Entry) (range : Span) → range_fits birth (all_bare h) range ≡ range_fits birth h range
 fits_same birth h range = λ i. nat_le (range.first + range.count) (size_same birth h i)
@@ -103,6 +103,13 @@ evict_same : (birth : Birth) (h : List Entry) (epoch limit most : ℕ) →
 evict_same birth h epoch limit most =
     order_with birth h (max epoch (newest_epoch (all_bare h))) limit most ∙ (λ i. answer.Pages (map page_number (take most (order birth h (max epoch (newest_same h i)) limit))))
 
+begun_same : (birth : Birth) (h : List Entry) → begin_reply birth (all_bare h) ≡ begin_reply birth h
+begun_same birth h = λ i. cond birth.numbered (answer.Began (next_number_same h i)) answer.Done
+
+unbegun_same : (h : List Entry) (of : Option ℕ) (next : Reply) → refuse_unbegun (all_bare h) of next ≡ refuse_unbegun h of next
+unbegun_same h None next = refl
+unbegun_same h (Some n) next = λ i. refuse_where (not (has_begun_same h n i)) (refusal.NotBegun n) next
+
 -- whatever the calls before it brought, a call has this reply
 pub reply_same : (birth : Birth) (h : List Entry) (who epoch : ℕ) (c : Call) → reply birth (all_bare h) who epoch c ≡ reply birth h who epoch c
 reply_same birth h who epoch (calls.Read piece last b) = access_same birth h (record { off = piece.off; len = piece.len; last = last.0; bytes = None }) b
@@ -124,9 +131,9 @@ reply_same birth h who epoch (calls.Dirty range b) =
     (refuse_at (first_page (λ p. absent_same birth h p i) range.first range.count) refusal.NotFound
     (with_frames (count_pages (λ p. loaned_same birth h p i) range.first range.count) b
     (answer.Woke (woken_same birth h (calls.Dirty range b) i))))))
-reply_same birth h who epoch (calls.Begin range only_zero) = λ i. refuse_where (not (fits_same birth h range i)) refusal.Range answer.Done
-reply_same birth h who epoch (calls.End range) =
-    λ i. refuse_where (not (fits_same birth h range i)) refusal.Range (answer.Woke (woken_same birth h (calls.End range) i))
+reply_same birth h who epoch (calls.Begin range only_zero) = λ i. refuse_where (not (fits_same birth h range i)) refusal.Range (begun_same birth h i)
+reply_same birth h who epoch (calls.End range of) =
+    λ i. refuse_where (not (fits_same birth h range i)) refusal.Range (unbegun_same h of (answer.Woke (woken_same birth h (calls.End range of) i)) i)
 reply_same birth h who epoch (calls.Query range room) =
     λ i. refuse_where (not (fits_same birth h range i)) refusal.Range (ranges_reply room (runs_same birth h range i))
 reply_same birth h who epoch (calls.Stats reset) = λ i. answer.Modified (modified_same birth h i)

@@ -9,6 +9,7 @@ use Rattle.up_num.specs.declared.answers.Outcome.TheVariants.{Waiting, Freed, Sh
 use Rattle.up_num.specs.declared.answers.Packet.{Packet}
 use Rattle.up_num.specs.declared.answers.Packet.TheVariants.{Complete}
 use Rattle.up_model.specs.Attempts.{Access, page_of, accepts, is_blocked, blocks, attempt}
+use Rattle.up_model.specs.Deeds.{named}
 use Rattle.up_model.specs.Size.{size, asks_to_cut}
 use Rattle.up_model.specs.Roles.{detached, in_role, detaches}
 use Rattle.up_model.specs.Pages.{run_of, runs, list_pages}
@@ -63,8 +64,8 @@ resolves_brought birth h b (calls.Dirty range brought) DirtyAsk p = refl
 resolves_brought birth h b _ k p = refl
 
 resolves_same : (birth : Birth) (h : List Entry) (c : Call) (k : AskKind) (p : ℕ) → resolves birth (all_bare h) c k p ≡ resolves birth h c k p
-resolves_same birth h (calls.End range) ReadAsk p = refl
-resolves_same birth h (calls.End range) DirtyAsk p = λ i. cond (covers range p && empty_same birth h p i) Freed Waiting
+resolves_same birth h (calls.End range of) ReadAsk p = refl
+resolves_same birth h (calls.End range of) DirtyAsk p = λ i. cond (covers range p && empty_same birth h (named birth (calls.End range of)) p i) Freed Waiting
 resolves_same birth h (calls.Supply range bytes brought) ReadAsk p = refl
 resolves_same birth h (calls.Supply range bytes brought) DirtyAsk p = refl
 resolves_same birth h (calls.Dirty range brought) ReadAsk p = refl

@@ -49,7 +49,7 @@ EnoughSuffices = (birth : Birth) (h : List Entry) (who epoch : ℕ) (call : Call
 
 -- whether a call is proper doesn't depend on what earlier ones brought
 abbrev pub ProperWithoutFrames : Type 0
-ProperWithoutFrames = (h other : List Entry) (who : ℕ) (call : Call) → SameButFrames h other → proper h who call ≡ proper other who call
+ProperWithoutFrames = (birth : Birth) (h other : List Entry) (who : ℕ) (call : Call) → SameButFrames h other → proper birth h who call ≡ proper birth other who call
 
 -- and no byte does
 abbrev pub BytesWithoutFrames : Type 0

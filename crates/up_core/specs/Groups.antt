@@ -28,7 +28,7 @@ is_filling _ = false
 -- calls of writeback that take no frames
 abbrev pub is_writeback : Call → Bool
 is_writeback (Begin range zero) = true
-is_writeback (End range) = true
+is_writeback (End range of) = true
 is_writeback (Query range room) = true
 is_writeback (Stats reset) = true
 is_writeback _ = false

@@ -44,7 +44,7 @@ kind_taken _ = Ordinary
 pub record Keeps (whole : Whole) (who : ℕ) (call : Call) (frames : FramesIn) : Type 0 where
   pub own : AllAre (bank_of whole.banks (kind_taken call)) (frames_of frames)
   pub agrees : Agrees call frames
-  pub proper : IsTrue (proper whole.journal who call)
+  pub proper : IsTrue (proper whole.birth whole.journal who call)
 
 -- the object after a request
 abbrev pub after_one : Whole → Request → Whole

@@ -23,7 +23,7 @@ use up_pages::Look;
 /// How many frames the call needs now: as many as it is told where it brings none. It takes no memory.
 #[tactic(auto, using(crate::proofs::FramesNeeded::write_told, crate::proofs::FramesNeeded::needs_nothing, crate::proofs::FramesNeeded::write_some, crate::proofs::FramesNeeded::retry_held))]
 pub fn needs(object: &Object, call: &Call) -> u32
-    requires proper { (who : ℕ) × IsTrue (replies.proper object.now.journal who call.now) }
+    requires proper { (who : ℕ) × IsTrue (replies.proper object.now.birth object.now.journal who call.now) }
     ensures { result ≡ needed object.now.birth object.now.journal call.now }
 {
     if !may_need(call) {

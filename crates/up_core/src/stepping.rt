@@ -33,7 +33,7 @@ pub fn step(
 ) -> Step
     requires own { AllAre (bank_of object.old.banks (kind_taken call)) (frames_of frames) }
     requires agrees { Agrees call frames }
-    requires proper { IsTrue (replies.proper object.old.journal who call) }
+    requires proper { IsTrue (replies.proper object.old.birth object.old.journal who call) }
     ensures reply { IfOk result (λ s. s.reply ≡ replies.reply object.old.birth object.old.journal who epoch call) }
     ensures object { OnOk result (object.new ≡ after object.old who epoch call) }
     ensures frames { IfOk result (λ s. (kind : FrameKindValue) → count_kind kind s.back.items + held object.new.birth object.new.journal kind ≡ count_kind kind (frames_of frames) + held object.old.birth object.old.journal kind) }
@@ -47,7 +47,7 @@ pub fn step(
 fn step_by(object: &mut Object, alloc: Global, by: By, call: Call, frames: FramesIn) -> Step
     requires own { AllAre (bank_of object.old.banks (kind_taken call)) (frames_of frames) }
     requires agrees { Agrees call frames }
-    requires proper { IsTrue (replies.proper object.old.journal by.who call) }
+    requires proper { IsTrue (replies.proper object.old.birth object.old.journal by.who call) }
     ensures { Steps object.old object.new result by.who by.epoch call (frames_of frames) }
 {
     if takes(&call) {
@@ -78,7 +78,7 @@ fn takes(call: &Call) -> bool
 fn access(object: &mut Object, alloc: Global, by: By, call: Call, frames: FramesIn) -> Step
     requires takes { takes_frames call ≡ true }
     requires own { AllAre (bank_of object.old.banks (kind_taken call)) (frames_of frames) }
-    requires proper { IsTrue (replies.proper object.old.journal by.who (bringing (brought_of frames) call)) }
+    requires proper { IsTrue (replies.proper object.old.birth object.old.journal by.who (bringing (brought_of frames) call)) }
     ensures { Steps object.old object.new result by.who by.epoch (bringing (brought_of frames) call) (frames_of frames) }
 {
     let By { who, epoch } = by;
@@ -116,7 +116,7 @@ fn piece_of(off: u64, bytes: &Bytes) -> Piece
 fn fill(object: &mut Object, alloc: Global, by: By, call: Call, frames: FramesIn) -> Step
     requires fills { is_filling call ≡ true }
     requires own { AllAre (bank_of object.old.banks (kind_taken call)) (frames_of frames) }
-    requires proper { IsTrue (replies.proper object.old.journal by.who (bringing (brought_of frames) call)) }
+    requires proper { IsTrue (replies.proper object.old.birth object.old.journal by.who (bringing (brought_of frames) call)) }
     ensures { Steps object.old object.new result by.who by.epoch (bringing (brought_of frames) call) (frames_of frames) }
 {
     let By { who, epoch } = by;
@@ -135,6 +135,7 @@ fn fill(object: &mut Object, alloc: Global, by: By, call: Call, frames: FramesIn
 /// Does a call that takes no frames.
 fn act(object: &mut Object, alloc: Global, by: By, call: Call) -> Step
     requires alone { takes_frames call ≡ false }
+    requires proper { IsTrue (replies.proper object.old.birth object.old.journal by.who call) }
     ensures { Steps object.old object.new result by.who by.epoch call [] }
 {
     let By { who, epoch } = by;
@@ -151,12 +152,13 @@ fn act(object: &mut Object, alloc: Global, by: By, call: Call) -> Step
 /// Does a call on pages that takes no frames.
 fn manage(object: &mut Object, alloc: Global, by: By, call: Call) -> Step
     requires manages { (is_writeback call || is_paging call) ≡ true }
+    requires proper { IsTrue (replies.proper object.old.birth object.old.journal by.who call) }
     ensures { Steps object.old object.new result by.who by.epoch call [] }
 {
     let By { who, epoch } = by;
     match call {
         Call::Begin { range, zero } => begin(object, alloc, who, epoch, range, zero),
-        Call::End { range } => end(object, alloc, who, epoch, range),
+        Call::End { range, of } => end(object, alloc, who, epoch, range, of),
         Call::Query { range, room } => query(object, alloc, who, epoch, range, room),
         Call::Stats { reset } => stats(object, alloc, who, epoch, reset),
         other => reclaim(object, alloc, by, other),

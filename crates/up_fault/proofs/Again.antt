@@ -35,11 +35,11 @@ by_some : (o : Option ℕ) (who : ℕ) → is_by o who ≡ true → o ≡ Some w
 by_some None who is = absurd cc
 by_some (Some holder) who is = ap (λ (n : ℕ). Some n) (nat_eq_true holder who is)
 
-pub held_owner : (h : List Entry) (who ticket : ℕ) (brought : Brought) → proper h who (Retry ticket brought) ≡ true → owner h ticket ≡ Some who
-held_owner h who ticket brought is = by_some (owner h ticket) who (and_left (is_by (owner h ticket) who) _ is)
+pub held_owner : (birth : Birth) (h : List Entry) (who ticket : ℕ) (brought : Brought) → proper birth h who (Retry ticket brought) ≡ true → owner h ticket ≡ Some who
+held_owner birth h who ticket brought is = by_some (owner h ticket) who (and_left (is_by (owner h ticket) who) _ is)
 
-pub held_spends : (birth : Birth) (e : Entry) (h : List Entry) (who ticket : ℕ) (brought : Brought) → Legal birth h → proper h who (Retry ticket brought) ≡ true → e.call ≡ Retry ticket brought → keeps_ticket e.reply ≡ false → Spends e h ticket
-held_spends birth e h who ticket brought legal is c r = retry_spends e h ticket brought c r (owner_below birth h legal ticket who (held_owner h who ticket brought is))
+pub held_spends : (birth : Birth) (e : Entry) (h : List Entry) (who ticket : ℕ) (brought : Brought) → Legal birth h → proper birth h who (Retry ticket brought) ≡ true → e.call ≡ Retry ticket brought → keeps_ticket e.reply ≡ false → Spends e h ticket
+held_spends birth e h who ticket brought legal is c r = retry_spends e h ticket brought c r (owner_below birth h legal ticket who (held_owner birth h who ticket brought is))
 
 -- Its reply.
 
@@ -144,7 +144,7 @@ pub order_so : (m n : ℕ) → nat_le m n ≡ true → m ≤ n
 order_so m n is = grind (arith, nat_tests)
 
 -- the bytes of a proper write
-pub short_write : (h : List Entry) (who off : ℕ) (bytes : List ℕ) (last : PageNo) (brought : Brought) → proper h who (Write off bytes last brought) ≡ true → length bytes ≤ 4096
-short_write h who off bytes last brought is =
+pub short_write : (birth : Birth) (h : List Entry) (who off : ℕ) (bytes : List ℕ) (last : PageNo) (brought : Brought) → proper birth h who (Write off bytes last brought) ≡ true → length bytes ≤ 4096
+short_write birth h who off bytes last brought is =
     let ends : nat_le (off % 4096 + length bytes) 4096 ≡ true = and_right (nat_lt 0 (length bytes)) _ (and_left (within_page off (length bytes)) _ (and_left (is_piece off (length bytes) last.0) (counts_frames brought) is)) in
     let fits : off % 4096 + length bytes ≤ 4096 = grind (arith, nat_tests) in omega arith

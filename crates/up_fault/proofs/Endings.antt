@@ -1,5 +1,5 @@
 -- What the end of a call on one page asks for: other pages and their places stay.
-use Rattle.std.proofs.Common.{◌≡◌, ℕ, ◌+◌, ◌*◌, ◌%◌, ◌<◌, ◌==◌, ◌&&◌, ◌||◌, Bool, true, false, Some, None, List, refl, ap, ◌∙◌, arith, nat_le, nat_lt}
+use Rattle.std.proofs.Common.{◌≡◌, ℕ, ◌+◌, ◌*◌, ◌%◌, ◌<◌, ◌==◌, ◌&&◌, ◌||◌, Bool, true, false, Some, None, Ok, List, ◌∷◌, refl, ap, sym, ◌∙◌, arith, nat_le, nat_lt}
 use Rattle.std.proofs.lemmas.Bool.Decides.{nat_tests}
 use Rattle.up_num.specs.declared.answers.AskKind.TheVariants.{Dirty as DirtyAsk}
 use Rattle.up_model.specs.Attempts.{Access, page_of, accepts, is_bytes, attempt}
@@ -15,7 +15,13 @@ use Rattle.up_model.specs.declared.entry.Call.TheVariants as calls
 use Rattle.up_model.specs.declared.entry.Reply.{Reply}
 use Rattle.up_model.proofs.Bools.{and_false}
 use Rattle.up_model.proofs.Resolved.{parks_asked}
-use Rattle.up_object.specs.Change.{Done, Rests}
+use Rattle.up_model.specs.Reply.{reply}
+use Rattle.up_bank.specs.Standing.{Held as Frame}
+use Rattle.up_bank.specs.declared.kind.FrameKind.{FrameKind}
+use Rattle.up_pages.specs.Frames.{Stock, count_kind}
+use Rattle.up_object.specs.Change.{Done, Rests, Counts, of_kind, AllOwn}
+use Rattle.up_object.specs.Steps.{Steps}
+use Rattle.up_object.specs.Whole.{Whole, with_entry, held}
 
 off_page : (page p : ℕ) → (nat_le page p && nat_lt p (page + 1)) ≡ false → (page == p) ≡ false
 off_page page p out = grind (arith, nat_tests)
@@ -63,3 +69,18 @@ parts_of off = omega arith
 
 pub place_small : (off : ℕ) → off % 4096 < 4096
 place_small off = omega arith
+
+-- a call that was closed with the reply that is due
+pub closed_steps : {E : Type 0} (old new : Whole) (back : Stock) (given : List Frame) (all : Counts) (who epoch : ℕ) (call : Call) (r : Reply) →
+    new ≡ with_entry old (record { who = who; epoch = epoch; call = call; reply = r }) → reply old.birth old.journal who epoch call ≡ r →
+    ((kind : FrameKind) → count_kind kind back.items + held old.birth (record { who = who; epoch = epoch; call = call; reply = r } ∷ old.journal) kind ≡ of_kind kind all) →
+    ((kind : FrameKind) → of_kind kind all ≡ count_kind kind given + held old.birth old.journal kind) → AllOwn old.banks back.items →
+    Steps {E = E} old new (Ok (record { reply = r; back = back })) who epoch call given
+closed_steps old new back given all who epoch call r is due counts had own = record {
+  ok = is ∙ (λ i. with_entry old (record { who = who; epoch = epoch; call = call; reply = sym due i }));
+  due = sym due;
+  frames = λ kind. ap (λ (v : Whole). count_kind kind back.items + held v.birth v.journal kind) is ∙ counts kind ∙ had kind;
+  own = own;
+  err = tt;
+  back = tt;
+}

@@ -67,7 +67,7 @@ impl Reading {
 
 /// Reads a piece.
 pub(crate) fn read_piece(object: Object, given: (Reading, Frames)) -> (Object, Step)
-    requires proper { IsTrue (replies.proper object.journal given.0.by.who (read_call given.0)) }
+    requires proper { IsTrue (replies.proper object.birth object.journal given.0.by.who (read_call given.0)) }
     requires own { AllAre (bank_of object.banks OrdinaryKind) given.1.items }
     ensures { Steps object result.0 result.1 given.0.by.who given.0.by.epoch (read_call given.0) given.1.items }
 {
@@ -81,7 +81,7 @@ pub(crate) fn read_piece(object: Object, given: (Reading, Frames)) -> (Object, S
 }
 
 fn decline_read(object: Object, reading: Reading, why: Declined, frames: Frames) -> (Object, Step)
-    requires proper { IsTrue (replies.proper object.journal reading.by.who (read_call reading)) }
+    requires proper { IsTrue (replies.proper object.birth object.journal reading.by.who (read_call reading)) }
     requires own { AllAre (bank_of object.banks OrdinaryKind) frames.items }
     requires due { replies.access_reply object.birth object.journal (access_in (read_attempt reading) []) reading.brought ≡ declined_reply why }
     ensures { Steps object result.0 result.1 reading.by.who reading.by.epoch (read_call reading) frames.items }
@@ -99,7 +99,7 @@ fn decline_read(object: Object, reading: Reading, why: Declined, frames: Frames)
 
 /// The page isn't there: the read waits.
 fn park_read(object: Object, reading: Reading, kind: AskKind, frames: Frames) -> (Object, Step)
-    requires proper { IsTrue (replies.proper object.journal reading.by.who (read_call reading)) }
+    requires proper { IsTrue (replies.proper object.birth object.journal reading.by.who (read_call reading)) }
     requires own { AllAre (bank_of object.banks OrdinaryKind) frames.items }
     requires waits { Parking object.birth object.journal (access_in (read_attempt reading) []) reading.brought kind }
     ensures { Steps object result.0 result.1 reading.by.who reading.by.epoch (read_call reading) frames.items }
@@ -133,7 +133,7 @@ fn park_read(object: Object, reading: Reading, kind: AskKind, frames: Frames) ->
 
 /// The page is there: the read gives its bytes.
 fn read_bytes(object: Object, reading: Reading, frames: Frames) -> (Object, Step)
-    requires proper { IsTrue (replies.proper object.journal reading.by.who (read_call reading)) }
+    requires proper { IsTrue (replies.proper object.birth object.journal reading.by.who (read_call reading)) }
     requires own { AllAre (bank_of object.banks OrdinaryKind) frames.items }
     requires done { Doing object.birth object.journal (access_in (read_attempt reading) []) reading.brought }
     ensures { Steps object result.0 result.1 reading.by.who reading.by.epoch (read_call reading) frames.items }

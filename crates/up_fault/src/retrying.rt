@@ -65,7 +65,7 @@ fn attempt_under(object: &Object, ticket: u64) -> Attempt
 
 /// Goes on with what waits under a ticket.
 pub(crate) fn try_again(object: Object, given: (Retrying, Frames)) -> (Object, Step)
-    requires proper { IsTrue (replies.proper object.journal given.0.by.who (retry_call given.0)) }
+    requires proper { IsTrue (replies.proper object.birth object.journal given.0.by.who (retry_call given.0)) }
     requires own { AllAre (bank_of object.banks OrdinaryKind) given.1.items }
     requires frames { replies.frames_in given.0.brought ≤ length given.1.items }
     ensures { Steps object result.0 result.1 given.0.by.who given.0.by.epoch (retry_call given.0) given.1.items }
@@ -82,7 +82,7 @@ pub(crate) fn try_again(object: Object, given: (Retrying, Frames)) -> (Object, S
 
 /// Nothing has become of the ticket, which stays.
 fn wait(object: Object, retrying: Retrying, frames: Frames) -> (Object, Step)
-    requires proper { IsTrue (replies.proper object.journal retrying.by.who (retry_call retrying)) }
+    requires proper { IsTrue (replies.proper object.birth object.journal retrying.by.who (retry_call retrying)) }
     requires own { AllAre (bank_of object.banks OrdinaryKind) frames.items }
     requires due { replies.reply object.birth object.journal retrying.by.who retrying.by.epoch (retry_call retrying) ≡ WaitingReply }
     ensures { Steps object result.0 result.1 retrying.by.who retrying.by.epoch (retry_call retrying) frames.items }
@@ -100,7 +100,7 @@ fn wait(object: Object, retrying: Retrying, frames: Frames) -> (Object, Step)
 
 /// Asks for frames. The ticket stays.
 fn need_again(object: Object, retrying: Retrying, count: u32, frames: Frames) -> (Object, Step)
-    requires proper { IsTrue (replies.proper object.journal retrying.by.who (retry_call retrying)) }
+    requires proper { IsTrue (replies.proper object.birth object.journal retrying.by.who (retry_call retrying)) }
     requires own { AllAre (bank_of object.banks OrdinaryKind) frames.items }
     requires due { replies.reply object.birth object.journal retrying.by.who retrying.by.epoch (retry_call retrying) ≡ NeedsReply count }
     ensures { Steps object result.0 result.1 retrying.by.who retrying.by.epoch (retry_call retrying) frames.items }
@@ -118,7 +118,7 @@ fn need_again(object: Object, retrying: Retrying, count: u32, frames: Frames) ->
 
 /// Refuses the access, which spends its ticket.
 fn give_up(object: Object, retrying: Retrying, why: Refusal, frames: Frames) -> (Object, Step)
-    requires proper { IsTrue (replies.proper object.journal retrying.by.who (retry_call retrying)) }
+    requires proper { IsTrue (replies.proper object.birth object.journal retrying.by.who (retry_call retrying)) }
     requires own { AllAre (bank_of object.banks OrdinaryKind) frames.items }
     requires due { replies.reply object.birth object.journal retrying.by.who retrying.by.epoch (retry_call retrying) ≡ RefusedReply why }
     ensures { Steps object result.0 result.1 retrying.by.who retrying.by.epoch (retry_call retrying) frames.items }
@@ -146,7 +146,7 @@ fn give_up(object: Object, retrying: Retrying, why: Refusal, frames: Frames) -> 
 
 /// Makes the access of a freed ticket anew.
 fn access_again(object: Object, retrying: Retrying, frames: Frames) -> (Object, Step)
-    requires proper { IsTrue (replies.proper object.journal retrying.by.who (retry_call retrying)) }
+    requires proper { IsTrue (replies.proper object.birth object.journal retrying.by.who (retry_call retrying)) }
     requires own { AllAre (bank_of object.banks OrdinaryKind) frames.items }
     requires frames { replies.frames_in retrying.brought ≤ length frames.items }
     requires freed { tickets.outcome object.birth object.journal retrying.ticket ≡ FreedOutcome }
@@ -169,7 +169,7 @@ fn wait_again(
     kind: AskKind,
     frames: Frames,
 ) -> (Object, Step)
-    requires proper { IsTrue (replies.proper object.journal retrying.by.who (retry_call retrying)) }
+    requires proper { IsTrue (replies.proper object.birth object.journal retrying.by.who (retry_call retrying)) }
     requires own { AllAre (bank_of object.banks OrdinaryKind) frames.items }
     requires freed { tickets.outcome object.birth object.journal retrying.ticket ≡ FreedOutcome }
     requires some { is_some (parked object.journal retrying.ticket) ≡ true }
@@ -207,7 +207,7 @@ fn wait_again(
 }
 
 fn do_again(object: Object, retrying: Retrying, attempt: Attempt, frames: Frames) -> (Object, Step)
-    requires proper { IsTrue (replies.proper object.journal retrying.by.who (retry_call retrying)) }
+    requires proper { IsTrue (replies.proper object.birth object.journal retrying.by.who (retry_call retrying)) }
     requires own { AllAre (bank_of object.banks OrdinaryKind) frames.items }
     requires frames { replies.frames_in retrying.brought ≤ length frames.items }
     requires freed { tickets.outcome object.birth object.journal retrying.ticket ≡ FreedOutcome }
@@ -231,7 +231,7 @@ fn read_again(
     attempt: Attempt,
     frames: Frames,
 ) -> (Object, Step)
-    requires proper { IsTrue (replies.proper object.journal retrying.by.who (retry_call retrying)) }
+    requires proper { IsTrue (replies.proper object.birth object.journal retrying.by.who (retry_call retrying)) }
     requires own { AllAre (bank_of object.banks OrdinaryKind) frames.items }
     requires freed { tickets.outcome object.birth object.journal retrying.ticket ≡ FreedOutcome }
     requires some { is_some (parked object.journal retrying.ticket) ≡ true }
@@ -281,7 +281,7 @@ fn write_again(
     attempt: Attempt,
     frames: Frames,
 ) -> (Object, Step)
-    requires proper { IsTrue (replies.proper object.journal retrying.by.who (retry_call retrying)) }
+    requires proper { IsTrue (replies.proper object.birth object.journal retrying.by.who (retry_call retrying)) }
     requires own { AllAre (bank_of object.banks OrdinaryKind) frames.items }
     requires frames { replies.frames_in retrying.brought ≤ length frames.items }
     requires freed { tickets.outcome object.birth object.journal retrying.ticket ≡ FreedOutcome }

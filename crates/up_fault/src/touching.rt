@@ -31,7 +31,7 @@ pub fn touch(
     last: PageNo,
     frame: FramesIn,
 ) -> Step
-    requires proper { IsTrue (replies.proper object.old.journal who (touch_call piece write last (brought_of frame))) }
+    requires proper { IsTrue (replies.proper object.old.birth object.old.journal who (touch_call piece write last (brought_of frame))) }
     requires own { AllAre (bank_of object.old.banks OrdinaryKind) (frames_of frame) }
     requires bytes { IfSome write (λ bytes. length bytes ≡ piece.len) }
     ensures reply { IfOk result (λ step. step.reply ≡ replies.reply object.old.birth object.old.journal who epoch (touch_call piece write last (brought_of frame))) }
@@ -78,7 +78,7 @@ pub fn retry(
     ticket: u64,
     frame: FramesIn,
 ) -> Step
-    requires proper { IsTrue (replies.proper object.old.journal who (RetryCall ticket (brought_of frame))) }
+    requires proper { IsTrue (replies.proper object.old.birth object.old.journal who (RetryCall ticket (brought_of frame))) }
     requires own { AllAre (bank_of object.old.banks OrdinaryKind) (frames_of frame) }
     ensures reply { IfOk result (λ step. step.reply ≡ replies.reply object.old.birth object.old.journal who epoch (RetryCall ticket (brought_of frame))) }
     ensures object { OnOk result (object.new ≡ after object.old who epoch (RetryCall ticket (brought_of frame))) }

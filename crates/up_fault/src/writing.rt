@@ -71,7 +71,7 @@ impl Writing {
 
 /// Writes bytes.
 pub(crate) fn write_piece(object: Object, given: (Writing, Bytes, Frames)) -> (Object, Step)
-    requires proper { IsTrue (replies.proper object.journal given.0.by.who (write_call given.0 given.1)) }
+    requires proper { IsTrue (replies.proper object.birth object.journal given.0.by.who (write_call given.0 given.1)) }
     requires own { AllAre (bank_of object.banks OrdinaryKind) given.2.items }
     requires frames { replies.frames_in given.0.brought ≤ length given.2.items }
     ensures { Steps object result.0 result.1 given.0.by.who given.0.by.epoch (write_call given.0 given.1) given.2.items }
@@ -92,7 +92,7 @@ fn decline_write(
     why: Declined,
     frames: Frames,
 ) -> (Object, Step)
-    requires proper { IsTrue (replies.proper object.journal writing.by.who (write_call writing bytes)) }
+    requires proper { IsTrue (replies.proper object.birth object.journal writing.by.who (write_call writing bytes)) }
     requires own { AllAre (bank_of object.banks OrdinaryKind) frames.items }
     requires due { replies.access_reply object.birth object.journal (write_access writing bytes) writing.brought ≡ declined_reply why }
     ensures { Steps object result.0 result.1 writing.by.who writing.by.epoch (write_call writing bytes) frames.items }
@@ -117,7 +117,7 @@ fn park_write(
     kind: AskKind,
     frames: Frames,
 ) -> (Object, Step)
-    requires proper { IsTrue (replies.proper object.journal writing.by.who (write_call writing bytes)) }
+    requires proper { IsTrue (replies.proper object.birth object.journal writing.by.who (write_call writing bytes)) }
     requires own { AllAre (bank_of object.banks OrdinaryKind) frames.items }
     requires waits { Parking object.birth object.journal (write_access writing bytes) writing.brought kind }
     ensures { Steps object result.0 result.1 writing.by.who writing.by.epoch (write_call writing bytes) frames.items }
@@ -156,7 +156,7 @@ fn park_write(
 
 /// The page is there, and may get dirty: the write is done.
 fn write_bytes(object: Object, writing: Writing, bytes: Bytes, frames: Frames) -> (Object, Step)
-    requires proper { IsTrue (replies.proper object.journal writing.by.who (write_call writing bytes)) }
+    requires proper { IsTrue (replies.proper object.birth object.journal writing.by.who (write_call writing bytes)) }
     requires own { AllAre (bank_of object.banks OrdinaryKind) frames.items }
     requires frames { replies.frames_in writing.brought ≤ length frames.items }
     requires done { Doing object.birth object.journal (write_access writing bytes) writing.brought }

@@ -10,11 +10,12 @@ use Rattle.up_bank.specs.declared.kind.FrameKind.{FrameKind}
 use Rattle.up_pages.specs.Frames.{count_kind}
 use Rattle.up_pages.specs.declared.page.Page.{Page}
 use Rattle.up_pages.specs.declared.page.Page.TheVariants.{Absent}
-use Rattle.up_pages.specs.Pages.{PageMap, page_at, size_of, frame_of, held_by}
+use Rattle.up_pages.specs.Pages.{PageMap, page_at, size_of, frame_of, held_by, look_of as look_at}
 use Rattle.up_queues.specs.declared.queued.Queued.{Queued}
 use Rattle.up_queues.specs.Queue.{Queue, find_page}
 use Rattle.up_model.specs.Deeds.{has_page}
 use Rattle.up_model.specs.Size.{size}
+use Rattle.up_model.specs.States.{plain}
 use Rattle.up_model.specs.Asks.{asked}
 use Rattle.up_model.specs.Order.{loose}
 use Rattle.up_model.specs.Concerns.{concerns, keeps_asks, keeps_spent, keeps_roles, keeps_modified, keeps_size}
@@ -25,7 +26,10 @@ use Rattle.up_model.proofs.Quiet.{untouched}
 use Rattle.up_model.proofs.Kept.{kept_asks, kept_size}
 use Rattle.up_asks.specs.Asking.{Asking}
 use Rattle.up_object.specs.declared.marks.Mark.{Mark}
-use Rattle.up_object.specs.Parts.{BankPair, PageStands, HasOwn, mark_at}
+use Rattle.up_object.specs.Numbers.{Numbered, begin_in, bared, is_zeros}
+use Rattle.up_object.proofs.PageNumbers.{zeros_is}
+use Rattle.up_object.proofs.BeginLists.{begins_next}
+use Rattle.up_object.specs.Parts.{BankPair, PageStands, HasOwn, mark_at, shown}
 use Rattle.up_object.specs.Stands.{Tally, seat, queued, leaves_after, leave_calls, StandsFor}
 use Rattle.up_object.specs.Change.{AllOwn}
 use Rattle.up_object.specs.Whole.{held}
@@ -42,9 +46,10 @@ seat_gone birth e h p t =
 
 -- what becomes of one page, by whether the list has it
 page_left : (banks : BankPair) (page : Page) (mark : Mark) (birth : Birth) (e : Entry) (h : List Entry) (p : ℕ) (listed : Bool) → PageStands banks page mark birth h p →
-    (listed ≡ true → Goes birth e h p) → (listed ≡ false → concerns birth h e p ≡ false) → PageStands banks (cond listed Absent page) mark birth (e ∷ h) p
-page_left banks page mark birth e h p true s goes rests = drops_page banks page mark birth e h p s (goes refl)
-page_left banks page mark birth e h p false s goes rests = keeps_page banks page mark birth e h p s (untouched birth e h p (rests refl))
+    (listed ≡ true → Goes birth e h p) → (listed ≡ true → plain birth h p ≡ false) → (listed ≡ false → concerns birth h e p ≡ false) → PageStands banks (cond listed Absent page) mark birth (e ∷ h) p
+page_left banks page mark birth e h p true s goes bare rests =
+    drops_page banks page mark mark birth e h p s (goes refl) (rw (zeros_is birth h p (shown (look_at page)) s.looks ∙ bare refl) refl)
+page_left banks page mark birth e h p false s goes bare rests = keeps_page banks page mark birth e h p s (untouched birth e h p (rests refl))
 
 seat_left : (birth : Birth) (e : Entry) (h : List Entry) (p : ℕ) (listed : Bool) (found : Option Queued) → found ≡ seat birth h p → asked birth (e ∷ h) DirtyAsk p ≡ asked birth h DirtyAsk p →
     (listed ≡ true → Goes birth e h p) → (listed ≡ false → concerns birth h e p ≡ false) → cond listed None found ≡ seat birth (e ∷ h) p
@@ -54,6 +59,7 @@ seat_left birth e h p false found was unasked goes rests = was ∙ sym (seat_sta
 -- what an entry says of the pages of a list, and of the rest
 pub record Takes (birth : Birth) (e : Entry) (h : List Entry) (list : List PageNo) : Type 0 where
   pub goes : (p : ℕ) → has_page list p ≡ true → Goes birth e h p
+  pub bare : (p : ℕ) → has_page list p ≡ true → plain birth h p ≡ false
   pub rests : (p : ℕ) → has_page list p ≡ false → concerns birth h e p ≡ false
   pub asks : keeps_asks e ≡ true
   pub spent : keeps_spent e ≡ true
@@ -72,13 +78,13 @@ pages_left : (banks : BankPair) (pages pages' : PageMap) (marks : List Mark) (qu
     ((p : ℕ) → PageStands banks (page_at pages p) (mark_at marks p) birth h p) → Takes birth e h list → Taken pages pages' queue queue' list →
     (p : ℕ) → PageStands banks (page_at pages' p) (mark_at marks p) birth (e ∷ h) p
 pages_left banks pages pages' marks queue queue' birth e h list stand takes taken p =
-    rw (taken.puts p) (page_left banks (page_at pages p) (mark_at marks p) birth e h p (has_page list p) (stand p) (takes.goes p) (takes.rests p))
+    rw (taken.puts p) (page_left banks (page_at pages p) (mark_at marks p) birth e h p (has_page list p) (stand p) (takes.goes p) (takes.bare p) (takes.rests p))
 
-pub evicted : (banks : BankPair) (pages pages' : PageMap) (marks : List Mark) (queue queue' : Queue) (asking : Asking) (tally : Tally) (newest newest' leaves leaves' spare spare' room : ℕ) (birth : Birth) (e : Entry) (h h' : List Entry) (list : List PageNo) →
-    StandsFor banks pages marks queue asking tally newest leaves spare birth h → Takes birth e h list → Taken pages pages' queue queue' list →
-    newest' ≡ max e.epoch newest → leaves' ≡ leaves_after e.call leaves → leaves' < room → spare' ≡ room - 1 → h' ≡ e ∷ h →
-    StandsFor banks pages' marks queue' asking tally newest' leaves' spare' birth h'
-evicted banks pages pages' marks queue queue' asking tally newest newest' leaves leaves' spare spare' room birth e h h' list s takes taken newer left enough less is =
+pub evicted : (banks : BankPair) (pages pages' : PageMap) (marks : List Mark) (queue queue' : Queue) (asking : Asking) (tally : Tally) (numbers numbers' : Numbered) (newest newest' leaves leaves' spare spare' room : ℕ) (birth : Birth) (e : Entry) (h h' : List Entry) (list : List PageNo) →
+    StandsFor banks pages marks queue asking tally numbers newest leaves spare birth h → Takes birth e h list → Taken pages pages' queue queue' list →
+    numbers'.begins ≡ numbers.begins ++ option_to_list (begin_in e) → newest' ≡ max e.epoch newest → leaves' ≡ leaves_after e.call leaves → leaves' < room → spare' ≡ room - 1 → h' ≡ e ∷ h →
+    StandsFor banks pages' marks queue' asking tally numbers' newest' leaves' spare' birth h'
+evicted banks pages pages' marks queue queue' asking tally numbers numbers' newest newest' leaves leaves' spare spare' room birth e h h' list s takes taken adds newer left enough less is =
     let same = kept_asks birth e h takes.asks in
     rw is (record {
       legal = (s.legal, takes.due.properly, takes.due.answer);
@@ -90,6 +96,7 @@ evicted banks pages pages' marks queue queue' asking tally newest newest' leaves
       wide = let wide = s.wide in let sized = taken.sized in let room = taken.room in omega arith;
       asks = asks_end asking birth e h false false s.asks (λ q. takes.asks) (λ q. takes.spent);
       tallied = tally_end tally birth e h false s.tallied (λ q. takes.tally);
+      numbered = begins_next numbers.begins numbers'.begins birth e h (s.legal, takes.due.properly, takes.due.answer) s.numbered adds;
       epoch = ap (max e.epoch) s.epoch ∙ sym newer;
       leaving = left ∙ ap (leaves_after e.call) s.leaving ∙ leaves_end e.call (birth.users + birth.pagers) (leave_calls h);
       few = less_few e.call leaves' leaves left s.few;

@@ -1,6 +1,6 @@
 -- The end of a call: all parts stand for the journal with its entry. And the beginning of one.
 use Rattle.std.proofs.Common.{◌≡◌, ℕ, ◌+◌, ◌-◌, ◌*◌, ◌<◌, ◌≤◌, ◌==◌, ◌&&◌, not, Bool, true, false, cond, Option, Some, None, List, [], ◌∷◌, ◌++◌, length, zero, suc, refl, ap, sym, ◌∙◌, subst, arith, nat_le, nat_lt}
-use Rattle.std.specs.Prelude.{max}
+use Rattle.std.specs.Prelude.{max, option_to_list}
 use Rattle.std.proofs.lemmas.Bool.{and_parts}
 use Rattle.std.proofs.lemmas.Bool.Decides.{nat_tests}
 use Rattle.up_num.specs.declared.answers.AskKind.{AskKind}
@@ -33,6 +33,9 @@ use Rattle.up_queues.specs.declared.queued.Queued.{Queued}
 use Rattle.up_model.proofs.Equations.{value_none}
 use Rattle.up_object.specs.Stands.{Tally, TallyStands, seat, item_of, reserved, leaves_after, is_leave, leave_calls, StandsFor}
 use Rattle.up_object.specs.Asks.{AsksStand}
+use Rattle.up_object.specs.declared.numbers.Begin.{Begin}
+use Rattle.up_object.specs.Numbers.{Numbered, BeginsStand, begin_in}
+use Rattle.up_object.proofs.BeginLists.{begins_next}
 use Rattle.up_object.specs.Change.{Done, Rest, RestStands, Counts, of_kind, counts_of, frames_in_all, is_done, up_to, PagesStand, FramesStand, AllAre, AllOwn, Rests, ChangeStandsFor}
 use Rattle.up_object.specs.Whole.{Whole, held, is_framed_by, same_loan}
 use Rattle.up_object.proofs.Turning.{keeps_page, kind_given}
@@ -90,14 +93,14 @@ less_few call left had is few = subst (λ (n : ℕ). n ≤ 128) (sym is) (fewer 
 
 -- an object at the end of a call, after absent pages past its size were taken off
 pub closed : (banks : BankPair) (pages pages' : PageMap) (marks : List Mark) (brings : FrameKind) (given back : Stock) (rest : Rest) (birth : Birth) (e : Entry) (h h' : List Entry) (done : Done) (from to : ℕ)
-    (queue' : Queue) (newest' leaves' spare' : ℕ) → ChangeStandsFor banks pages marks brings given back rest birth e h done →
+    (queue' : Queue) (numbers' : Numbered) (newest' leaves' spare' : ℕ) → ChangeStandsFor banks pages marks brings given back rest birth e h done →
     ((p : ℕ) → page_at pages' p ≡ page_at pages p) → size_of pages' ≡ size birth (e ∷ h) → size_of pages' ≤ size_of pages →
     ((p : ℕ) → is_done done p ≡ false → concerns birth h e p ≡ false) → ((p : ℕ) → (nat_le from p && nat_lt p to) ≡ false → Rests birth e h done p) →
     (done.asks ≡ false → keeps_asks e ≡ true) → (done.spent ≡ false → keeps_spent e ≡ true) → (done.tally ≡ false → (keeps_roles e && keeps_modified e) ≡ true) → IsDue birth e h →
     ((p : ℕ) → find_page queue'.items p ≡ cond (nat_le from p && nat_lt p to) (item_of pages marks rest.asks p) (find_page rest.queue.items p)) → queue'.room ≡ rest.queue.room →
-    newest' ≡ max e.epoch rest.newest → leaves' ≡ leaves_after e.call rest.leaves → spare' ≡ rest.spare - 1 → h' ≡ e ∷ h →
-    StandsFor banks pages' marks queue' rest.asks rest.tally newest' leaves' spare' birth h'
-closed banks pages pages' marks brings given back rest birth e h h' done from to queue' newest' leaves' spare' s puts sized less keeps places asks spends tally due finds room newest leaves spare is =
+    numbers'.begins ≡ rest.numbers.begins ++ option_to_list (begin_in e) → newest' ≡ max e.epoch rest.newest → leaves' ≡ leaves_after e.call rest.leaves → spare' ≡ rest.spare - 1 → h' ≡ e ∷ h →
+    StandsFor banks pages' marks queue' rest.asks rest.tally numbers' newest' leaves' spare' birth h'
+closed banks pages pages' marks brings given back rest birth e h h' done from to queue' numbers' newest' leaves' spare' s puts sized less keeps places asks spends tally due finds room adds newest leaves spare is =
     let stand = pages_end banks pages marks birth e h done s.part keeps in
     let asking = asks_end rest.asks birth e h done.asks done.spent s.others.asks asks spends in
     let enough = s.others.room in
@@ -114,6 +117,7 @@ closed banks pages pages' marks brings given back rest birth e h h' done from to
       wide = subst (λ (n : ℕ). size_of pages' ≤ n) (sym room) (omega arith);
       asks = asking;
       tallied = tally_end rest.tally birth e h done.tally s.others.tallied tally;
+      numbered = begins_next rest.numbers.begins numbers'.begins birth e h (s.legal, due.properly, due.answer) s.others.numbered adds;
       epoch = ap (max e.epoch) s.others.epoch ∙ sym newest;
       leaving = leaves ∙ ap (leaves_after e.call) s.others.leaving ∙ leaves_end e.call (birth.users + birth.pagers) (leave_calls h);
       few = less_few e.call leaves' rest.leaves leaves few;
@@ -179,12 +183,13 @@ empty_list (x ∷ xs) n m is low = absurd (omega arith)
 undone : (first p : ℕ) → (nat_le first p && nat_lt p first) ≡ false
 undone first p = grind (arith, nat_tests)
 
-pub begins : (banks : BankPair) (pages pages' : PageMap) (marks : List Mark) (queue : Queue) (asking asking' : Asking) (tally : Tally) (newest leaves spare spare' : ℕ) (birth : Birth) (h h' : List Entry) (e : Entry) (brings : FrameKind) (given back : Stock) (first limit : ℕ) →
-    StandsFor banks pages marks queue asking tally newest leaves spare birth h → h' ≡ h → ((p : ℕ) → page_at pages' p ≡ page_at pages p) → size_of pages' ≡ size_of pages → SameAsks asking asking' → first ≤ limit → limit ≤ size birth h →
+pub begins : (banks : BankPair) (pages pages' : PageMap) (marks : List Mark) (queue : Queue) (asking asking' : Asking) (tally : Tally) (numbers numbers' : Numbered) (newest leaves spare spare' : ℕ) (birth : Birth) (h h' : List Entry) (e : Entry) (brings : FrameKind) (given back : Stock) (first limit : ℕ) →
+    StandsFor banks pages marks queue asking tally numbers newest leaves spare birth h → h' ≡ h → ((p : ℕ) → page_at pages' p ≡ page_at pages p) → size_of pages' ≡ size_of pages → SameAsks asking asking' → numbers'.begins ≡ numbers.begins → first ≤ limit → limit ≤ size birth h →
     AllAre (bank_of banks brings) given.items → back.items ≡ [] → length back.items + (length given.items + (limit - first)) ≤ back.room → limit - first ≤ pages'.spare → leaves_after e.call leaves < spare' →
-    ChangeStandsFor banks pages' marks brings given back (record { queue = queue; asks = asking'; tally = tally; newest = newest; leaves = leaves; spare = spare' }) birth e h'
+    length (option_to_list (begin_in e)) ≤ numbers'.spare →
+    ChangeStandsFor banks pages' marks brings given back (record { queue = queue; asks = asking'; tally = tally; numbers = numbers'; newest = newest; leaves = leaves; spare = spare' }) birth e h'
     (record { first = first; mark = first; limit = limit; asks = false; spent = false; tally = false; size = false })
-begins banks pages pages' marks queue asking asking' tally newest leaves spare spare' birth h h' e brings given back first limit s same puts sized roomy order fits own none room ready enough = rw same (record {
+begins banks pages pages' marks queue asking asking' tally numbers numbers' newest leaves spare spare' birth h h' e brings given back first limit s same puts sized roomy kept order fits own none room ready enough place = rw same (record {
   legal = s.legal;
   kinds = s.kinds;
   sized = sized ∙ s.sized;
@@ -207,10 +212,12 @@ begins banks pages pages' marks queue asking asking' tally newest leaves spare s
     wide = subst (λ (n : ℕ). n ≤ queue.room) (sym sized) s.wide;
     asks = roomy_asks asking asking' birth h h s.asks roomy;
     tallied = s.tallied;
+    numbered = subst (λ (xs : List Begin). BeginsStand xs h) (sym kept) s.numbered;
     epoch = s.epoch;
     leaving = s.leaving;
     few = s.few;
     room = enough;
+    place = place;
   };
 })
 
@@ -228,10 +235,10 @@ frames_begin kind banks pages pages' marks given back birth h none stand sized p
     of_counts kind given back pages' ∙ add_none (count_kind kind given) (count_kind kind back) (held_by kind pages') (held birth h kind) (ap (λ (xs : List Frame). count_kind kind xs) none) now
 
 -- an object for whose call there was no room
-pub unopened : (banks : BankPair) (pages pages' : PageMap) (marks : List Mark) (queue : Queue) (asking asking' : Asking) (tally : Tally) (newest leaves spare spare' : ℕ) (birth : Birth) (h h' : List Entry) →
-    StandsFor banks pages marks queue asking tally newest leaves spare birth h → h' ≡ h → ((p : ℕ) → page_at pages' p ≡ page_at pages p) → size_of pages' ≡ size_of pages → SameAsks asking asking' → spare ≤ spare' →
-    StandsFor banks pages' marks queue asking' tally newest leaves spare' birth h'
-unopened banks pages pages' marks queue asking asking' tally newest leaves spare spare' birth h h' s same puts sized roomy more = rw same (record {
+pub unopened : (banks : BankPair) (pages pages' : PageMap) (marks : List Mark) (queue : Queue) (asking asking' : Asking) (tally : Tally) (numbers numbers' : Numbered) (newest leaves spare spare' : ℕ) (birth : Birth) (h h' : List Entry) →
+    StandsFor banks pages marks queue asking tally numbers newest leaves spare birth h → h' ≡ h → ((p : ℕ) → page_at pages' p ≡ page_at pages p) → size_of pages' ≡ size_of pages → SameAsks asking asking' → numbers'.begins ≡ numbers.begins → spare ≤ spare' →
+    StandsFor banks pages' marks queue asking' tally numbers' newest leaves spare' birth h'
+unopened banks pages pages' marks queue asking asking' tally numbers numbers' newest leaves spare spare' birth h h' s same puts sized roomy kept more = rw same (record {
   legal = s.legal;
   kinds = s.kinds;
   sized = sized ∙ s.sized;
@@ -241,6 +248,7 @@ unopened banks pages pages' marks queue asking asking' tally newest leaves spare
   wide = subst (λ (n : ℕ). n ≤ queue.room) (sym sized) s.wide;
   asks = roomy_asks asking asking' birth h h s.asks roomy;
   tallied = s.tallied;
+  numbered = subst (λ (xs : List Begin). BeginsStand xs h) (sym kept) s.numbered;
   epoch = s.epoch;
   leaving = s.leaving;
   few = s.few;
@@ -257,6 +265,7 @@ first_page banks page mark birth p gone bare = rw (gone, bare) (record {
   pinned = refl;
   protected = refl;
   keyed = λ framed. absurd cc;
+  numbered = record { dirtied = refl; unzeroed = λ bare. refl };
 })
 
 first_seat : (birth : Birth) (p : ℕ) → seat birth [] p ≡ None
@@ -265,11 +274,11 @@ first_seat birth p = rw (value_none birth (4096 * p)) refl
 no_leaves : (n : ℕ) → n ≡ n - 0
 no_leaves n = omega arith
 
-pub first_stands : (banks : BankPair) (pages : PageMap) (marks : List Mark) (queue : Queue) (asking : Asking) (tally : Tally) (leaves spare : ℕ) (birth : Birth) (h : List Entry) →
+pub first_stands : (banks : BankPair) (pages : PageMap) (marks : List Mark) (queue : Queue) (asking : Asking) (tally : Tally) (numbers : Numbered) (leaves spare : ℕ) (birth : Birth) (h : List Entry) →
     (banks.ordinary.kind ≡ Ordinary) × (banks.loaned.kind ≡ Loaned) → h ≡ [] → size_of pages ≡ birth.pages → ((p : ℕ) → page_at pages p ≡ Absent) → length marks ≡ birth.pages → ((p : ℕ) → mark_at marks p ≡ no_mark) →
-    queue.items ≡ [] → birth.pages ≤ queue.room → AsksStand asking birth [] → tally ≡ record { users = birth.users; pagers = birth.pagers; cut = false; modified = false } → leaves ≡ birth.users + birth.pagers → leaves ≤ 128 → leaves ≤ spare →
-    StandsFor banks pages marks queue asking tally 0 leaves spare birth h
-first_stands banks pages marks queue asking tally leaves spare birth h kinds none sized gone marked bare empty wide unasked counted reserve few room = rw (none, counted) (record {
+    queue.items ≡ [] → birth.pages ≤ queue.room → AsksStand asking birth [] → tally ≡ record { users = birth.users; pagers = birth.pagers; cut = false; modified = false } → numbers.begins ≡ [] → leaves ≡ birth.users + birth.pagers → leaves ≤ 128 → leaves ≤ spare →
+    StandsFor banks pages marks queue asking tally numbers 0 leaves spare birth h
+first_stands banks pages marks queue asking tally numbers leaves spare birth h kinds none sized gone marked bare empty wide unasked counted unbegun reserve few room = rw (none, counted) (record {
   legal = tt;
   kinds = kinds;
   sized = sized;
@@ -279,6 +288,7 @@ first_stands banks pages marks queue asking tally leaves spare birth h kinds non
   wide = subst (λ (n : ℕ). n ≤ queue.room) (sym sized) wide;
   asks = unasked;
   tallied = record { acting = refl; paging = refl; cut_off = refl; changed = refl };
+  numbered = rw unbegun (record { count = refl; named = λ n. refl });
   epoch = refl;
   leaving = reserve ∙ no_leaves (birth.users + birth.pagers);
   few = few;

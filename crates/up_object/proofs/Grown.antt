@@ -23,6 +23,11 @@ use Rattle.up_model.specs.declared.entry.Entry.{Entry}
 use Rattle.up_asks.specs.Asking.{Asking}
 use Rattle.up_object.specs.Asks.{AskRoom}
 use Rattle.up_object.specs.declared.marks.Mark.{Mark}
+use Rattle.up_object.specs.declared.numbers.Begin.{Begin}
+use Rattle.up_object.specs.Numbers.{Numbered, BeginsStand, begin_in, bared}
+use Rattle.up_model.specs.Numbers.{next_number}
+use Rattle.up_object.proofs.PageNumbers.{numbers_next}
+use Rattle.std.specs.Prelude.{option_to_list}
 use Rattle.up_object.specs.Parts.{BankPair, PageStands, shown, no_mark, mark_at}
 use Rattle.up_object.specs.Stands.{Tally, seat, leaves_after, StandsFor}
 use Rattle.up_object.specs.Change.{Done, is_done, PagesStand, AllOwn, Rests, Counts, counts_of, Change, grown, ChangeStandsFor}
@@ -36,15 +41,17 @@ none_more [] (suc p) = refl
 none_more (x ∷ xs) zero = refl
 none_more (x ∷ xs) (suc p) = none_more xs p
 
--- a page that is cut off is absent, and has no mark
-pub vanishes_page : (banks : BankPair) (mark : Mark) (birth : Birth) (e : Entry) (h : List Entry) (p : ℕ) → Vanishes birth e h p → mark ≡ no_mark → PageStands banks Absent mark birth (e ∷ h) p
-vanishes_page banks mark birth e h p t is = record {
+-- a page that is cut off is absent, and has no mark but its numbers
+pub vanishes_page : (banks : BankPair) (page : Page) (mark new : Mark) (birth : Birth) (e : Entry) (h : List Entry) (p : ℕ) → PageStands banks page mark birth h p → Vanishes birth e h p →
+    new ≡ record no_mark { dirtied = mark.dirtied; unzeroed = (bared (shown (look_at page)) (next_number h) mark).unzeroed } → PageStands banks Absent new birth (e ∷ h) p
+vanishes_page banks page mark new birth e h p s t is = record {
   looks = t.looks;
   bytes = t.bytes;
   owned = tt;
   pinned = rw is t.unpinned;
   protected = rw is t.unprotected;
   keyed = λ framed. absurd cc;
+  numbered = numbers_next mark new birth e h p (shown (look_at page)) false s.numbered s.looks t.undirtied (rw is refl) (λ bare. rw is refl);
 }
 
 absent_shown : (page : Page) → shown (look_at page) ≡ Missing → page ≡ Absent
@@ -78,13 +85,13 @@ undone : (first p : ℕ) → (nat_le first p && nat_lt p first) ≡ false
 undone first p = grind (arith, nat_tests)
 
 -- an object whose pages were brought, at the beginning of the call that brings them
-pub grows : (banks : BankPair) (pages pages' : PageMap) (marks marks' : List Mark) (queue queue' : Queue) (asking : Asking) (tally : Tally) (newest leaves spare spare' : ℕ) (birth : Birth) (h h' : List Entry) (e : Entry) (brings : FrameKind) (given back : Stock) (first limit : ℕ) →
-    StandsFor banks pages marks queue asking tally newest leaves spare birth h → h' ≡ h → first ≡ size_of pages → size birth (e ∷ h) ≡ limit → size birth h ≤ limit →
+pub grows : (banks : BankPair) (pages pages' : PageMap) (marks marks' : List Mark) (queue queue' : Queue) (asking : Asking) (tally : Tally) (numbers numbers' : Numbered) (newest leaves spare spare' : ℕ) (birth : Birth) (h h' : List Entry) (e : Entry) (brings : FrameKind) (given back : Stock) (first limit : ℕ) →
+    StandsFor banks pages marks queue asking tally numbers newest leaves spare birth h → h' ≡ h → numbers'.begins ≡ numbers.begins → first ≡ size_of pages → size birth (e ∷ h) ≡ limit → size birth h ≤ limit →
     ((p : ℕ) → page_at pages' p ≡ page_at pages p) → size_of pages' ≡ limit → limit - size_of pages ≤ pages'.spare → ((p : ℕ) → mark_at marks' p ≡ mark_at marks p) → limit ≤ length marks' →
-    queue'.items ≡ queue.items → limit ≤ queue'.room → given.items ≡ [] → back.items ≡ [] → length back.items + (limit - size_of pages) ≤ back.room → leaves_after e.call leaves < spare' →
-    ChangeStandsFor banks pages' marks' brings given back (record { queue = queue'; asks = asking; tally = tally; newest = newest; leaves = leaves; spare = spare' }) birth e h'
+    queue'.items ≡ queue.items → limit ≤ queue'.room → given.items ≡ [] → back.items ≡ [] → length back.items + (limit - size_of pages) ≤ back.room → leaves_after e.call leaves < spare' → length (option_to_list (begin_in e)) ≤ numbers'.spare →
+    ChangeStandsFor banks pages' marks' brings given back (record { queue = queue'; asks = asking; tally = tally; numbers = numbers'; newest = newest; leaves = leaves; spare = spare' }) birth e h'
     (record { first = first; mark = first; limit = limit; asks = false; spent = false; tally = false; size = true })
-grows banks pages pages' marks marks' queue queue' asking tally newest leaves spare spare' birth h h' e brings given back first limit s same from sized more puts count ready sets places items wide none none_too room enough =
+grows banks pages pages' marks marks' queue queue' asking tally numbers numbers' newest leaves spare spare' birth h h' e brings given back first limit s same kept from sized more puts count ready sets places items wide none none_too room enough place =
     let was = s.sized in
     let less : size_of pages ≤ limit = subst (λ (n : ℕ). n ≤ limit) (sym was) more in
     let empty : length given.items ≡ 0 = ap (λ (xs : List Frame). length xs) none in
@@ -111,19 +118,21 @@ grows banks pages pages' marks marks' queue queue' asking tally newest leaves sp
         wide = subst (λ (n : ℕ). n ≤ queue'.room) (sym count) wide;
         asks = s.asks;
         tallied = s.tallied;
+        numbered = subst (λ (xs : List Begin). BeginsStand xs h) (sym kept) s.numbered;
         epoch = s.epoch;
         leaving = s.leaving;
         few = s.few;
         room = enough;
+        place = place;
       };
     })
 
 -- after want of memory the object stands as before, with more room
-pub still_stands : (banks : BankPair) (pages pages' : PageMap) (marks marks' : List Mark) (queue queue' : Queue) (asking : Asking) (tally : Tally) (newest leaves spare spare' : ℕ) (birth : Birth) (h h' : List Entry) →
-    StandsFor banks pages marks queue asking tally newest leaves spare birth h → h' ≡ h → ((p : ℕ) → page_at pages' p ≡ page_at pages p) → size_of pages' ≡ size_of pages →
+pub still_stands : (banks : BankPair) (pages pages' : PageMap) (marks marks' : List Mark) (queue queue' : Queue) (asking : Asking) (tally : Tally) (numbers numbers' : Numbered) (newest leaves spare spare' : ℕ) (birth : Birth) (h h' : List Entry) →
+    StandsFor banks pages marks queue asking tally numbers newest leaves spare birth h → h' ≡ h → numbers'.begins ≡ numbers.begins → ((p : ℕ) → page_at pages' p ≡ page_at pages p) → size_of pages' ≡ size_of pages →
     ((p : ℕ) → mark_at marks' p ≡ mark_at marks p) → length marks ≤ length marks' → queue'.items ≡ queue.items → queue.room ≤ queue'.room → spare ≤ spare' →
-    StandsFor banks pages' marks' queue' asking tally newest leaves spare' birth h'
-still_stands banks pages pages' marks marks' queue queue' asking tally newest leaves spare spare' birth h h' s same puts count sets longer items wider more =
+    StandsFor banks pages' marks' queue' asking tally numbers' newest leaves spare' birth h'
+still_stands banks pages pages' marks marks' queue queue' asking tally numbers numbers' newest leaves spare spare' birth h h' s same kept puts count sets longer items wider more =
     let marked = s.marked in
     let wide = s.wide in
     let room = s.room in
@@ -137,6 +146,7 @@ still_stands banks pages pages' marks marks' queue queue' asking tally newest le
       wide = omega arith;
       asks = s.asks;
       tallied = s.tallied;
+      numbered = subst (λ (xs : List Begin). BeginsStand xs h) (sym kept) s.numbered;
       epoch = s.epoch;
       leaving = s.leaving;
       few = s.few;

@@ -14,3 +14,5 @@ pub mod Grown
 pub mod PageSteps
 pub mod Looking
 pub mod Ranged
+pub mod PageNumbers
+pub mod BeginLists

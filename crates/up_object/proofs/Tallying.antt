@@ -49,10 +49,12 @@ tallies banks pages marks brings given back rest tally birth e h done s t = reco
     wide = s.others.wide;
     asks = s.others.asks;
     tallied = t;
+    numbered = s.others.numbered;
     epoch = s.others.epoch;
     leaving = s.others.leaving;
     few = s.others.few;
     room = s.others.room;
+    place = s.others.place;
   };
 }
 

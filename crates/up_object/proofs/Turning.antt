@@ -17,14 +17,17 @@ use Rattle.up_bank.specs.declared.kind.FrameKind.{FrameKind}
 use Rattle.up_bank.specs.declared.kind.FrameKind.TheVariants.{Ordinary, Loaned}
 use Rattle.up_pages.specs.Frames.{Stock}
 use Rattle.up_pages.specs.Pages.{PageMap, page_at, size_of, frame_of, bytes_in, overwritten, look_of as look_at, with_state as page_with_state}
-use Rattle.up_model.specs.Looks.{PageLook, Missing, Zeros, Framed, look_of, has_frame, is_present, lacks_own_frame, with_state, pinned_look}
+use Rattle.up_model.specs.Looks.{PageLook, Missing, Zeros, Framed, look_of, has_frame, has_loan, is_present, lacks_own_frame, with_state, dirtied_look, pinned_look}
 use Rattle.up_model.specs.Size.{size}
 use Rattle.up_model.specs.Use.{newest_epoch}
-use Rattle.up_model.specs.Changes.{Turns, SamePage, SetsState, Uses, UnpinsOne, Hints, Blanks, Goes, Fills, Reframes, Writes, PinsOne, over_byte, FreshUse}
+use Rattle.up_model.specs.Numbers.{next_number}
+use Rattle.up_model.specs.Changes.{Turns, SamePage, SetsState, LetsDirty, Uses, UnpinsOne, Hints, Blanks, Goes, Fills, Reframes, Writes, PinsOne, over_byte, FreshUse}
 use Rattle.up_model.specs.declared.entry.Birth.{Birth}
 use Rattle.up_model.specs.declared.entry.Entry.{Entry}
 use Rattle.up_object.specs.declared.marks.Mark.{Mark}
 use Rattle.up_object.specs.declared.marks.Key.{Key}
+use Rattle.up_object.specs.Numbers.{is_zeros, bared}
+use Rattle.up_object.proofs.PageNumbers.{numbers_next, still_bare, own_bare}
 use Rattle.up_object.specs.Parts.{BankPair, bank_of, is_loan, PageStands, KeyStands, HasOwn, IsOwn, shown, state_shown, content, mark_at}
 use Rattle.up_object.specs.Change.{Done, Rest, RestStands, is_done, up_to, next_done, PagesStand, AllAre, AllOwn, FramesStand, ChangeStandsFor}
 
@@ -78,19 +81,21 @@ key_turns birth e h p mark look t k = record { place = t.usage.used ∙ k.place;
 -- it is another look, in what has the same bytes
 pub turns_page : (banks : BankPair) (old new : Page) (mark : Mark) (birth : Birth) (e : Entry) (h : List Entry) (p : ℕ) (look : PageLook) →
     PageStands banks old mark birth h p → Turns birth e h p look → look ≡ shown (look_at new) → ((i : ℕ) → i < 4096 → content old i ≡ content new i) → HasOwn banks new →
-    (has_frame (shown (look_at new)) ≡ true → has_frame (shown (look_at old)) ≡ true) → PageStands banks new mark birth (e ∷ h) p
-turns_page banks old new mark birth e h p look s t shows same own frames = record {
+    (has_frame (shown (look_at new)) ≡ true → has_frame (shown (look_at old)) ≡ true) → (is_zeros (shown (look_at new)) ≡ false → is_zeros (shown (look_at old)) ≡ false) → PageStands banks new mark birth (e ∷ h) p
+turns_page banks old new mark birth e h p look s t shows same own frames bares = record {
   looks = t.looks ∙ shows;
   bytes = λ i lt. t.bytes i lt ∙ s.bytes i lt ∙ same i lt;
   owned = own;
   pinned = t.marks.pinned ∙ s.pinned;
   protected = t.marks.protected ∙ s.protected;
   keyed = λ framed. key_turns birth e h p mark look t (s.keyed (frames framed));
+  numbered = numbers_next mark mark birth e h p (shown (look_at old)) false s.numbered s.looks t.undirtied refl
+      (still_bare birth e h p (shown (look_at old)) (shown (look_at new)) mark.unzeroed (t.looks ∙ shows) bares);
 }
 
 pub keeps_page : (banks : BankPair) (page : Page) (mark : Mark) (birth : Birth) (e : Entry) (h : List Entry) (p : ℕ) →
     PageStands banks page mark birth h p → SamePage birth e h p → PageStands banks page mark birth (e ∷ h) p
-keeps_page banks page mark birth e h p s t = turns_page banks page page mark birth e h p (look_of birth h p) s t s.looks (λ i lt. refl) s.owned (λ framed. framed)
+keeps_page banks page mark birth e h p s t = turns_page banks page page mark birth e h p (look_of birth h p) s t s.looks (λ i lt. refl) s.owned (λ framed. framed) (λ bare. bare)
 
 state_shows : (state : PageState) (page : Page) → with_state state (shown (look_at page)) ≡ shown (look_at (page_with_state state page))
 state_shows state Absent = refl
@@ -112,21 +117,27 @@ state_framed state Absent framed = framed
 state_framed state (Zero old) framed = framed
 state_framed state (HeldPage frame old) framed = refl
 
+state_bare : (state : PageState) (page : Page) → is_zeros (shown (look_at (page_with_state state page))) ≡ false → is_zeros (shown (look_at page)) ≡ false
+state_bare state Absent bare = refl
+state_bare state (Zero old) bare = absurd cc
+state_bare state (HeldPage frame old) bare = refl
+
 pub states_page : (banks : BankPair) (page : Page) (mark : Mark) (birth : Birth) (e : Entry) (h : List Entry) (p : ℕ) (state : PageState) →
     PageStands banks page mark birth h p → SetsState birth e h p state → PageStands banks (page_with_state state page) mark birth (e ∷ h) p
 states_page banks page mark birth e h p state s t =
     turns_page banks page (page_with_state state page) mark birth e h p (with_state state (look_of birth h p)) s t (ap (with_state state) s.looks ∙ state_shows state page)
-    (λ i lt. state_content state page i) (state_own banks state page s.owned) (state_framed state page)
+    (λ i lt. state_content state page i) (state_own banks state page s.owned) (state_framed state page) (state_bare state page)
 
-pub drops_page : (banks : BankPair) (page : Page) (mark : Mark) (birth : Birth) (e : Entry) (h : List Entry) (p : ℕ) →
-    PageStands banks page mark birth h p → Goes birth e h p → PageStands banks Absent mark birth (e ∷ h) p
-drops_page banks page mark birth e h p s t = record {
+pub drops_page : (banks : BankPair) (page : Page) (mark new : Mark) (birth : Birth) (e : Entry) (h : List Entry) (p : ℕ) →
+    PageStands banks page mark birth h p → Goes birth e h p → new ≡ bared (shown (look_at page)) (next_number h) mark → PageStands banks Absent new birth (e ∷ h) p
+drops_page banks page mark new birth e h p s t is = record {
   looks = t.looks;
   bytes = t.bytes;
   owned = tt;
-  pinned = t.marks.pinned ∙ s.pinned;
-  protected = t.marks.protected ∙ s.protected;
+  pinned = rw is (t.marks.pinned ∙ s.pinned);
+  protected = rw is (t.marks.protected ∙ s.protected);
   keyed = λ framed. absurd cc;
+  numbered = numbers_next mark new birth e h p (shown (look_at page)) false s.numbered s.looks t.undirtied (rw is refl) (λ bare. rw is refl);
 }
 
 -- A mark that alone changes.
@@ -147,6 +158,8 @@ uses_page banks page mark new birth e h p s t is = record {
   pinned = rw is (t.marks.pinned ∙ s.pinned);
   protected = rw is (t.marks.protected ∙ s.protected);
   keyed = λ framed. rw is (fresh_stands birth e h p t.fresh);
+  numbered = numbers_next mark new birth e h p (shown (look_at page)) false s.numbered s.looks t.undirtied (rw is refl)
+      (rw is (still_bare birth e h p (shown (look_at page)) (shown (look_at page)) mark.unzeroed (t.looks ∙ s.looks) (λ bare. bare)));
 }
 
 pub unpins_page : (banks : BankPair) (page : Page) (mark new : Mark) (birth : Birth) (e : Entry) (h : List Entry) (p : ℕ) →
@@ -158,10 +171,12 @@ unpins_page banks page mark new birth e h p s t is = record {
   pinned = rw is (t.pinned ∙ ap (λ (n : ℕ). n - 1) s.pinned);
   protected = rw is (t.protected ∙ s.protected);
   keyed = λ framed. let k = s.keyed framed in rw is (record { place = t.usage.used ∙ k.place; aged = t.usage.aged ∙ k.aged; chilled = t.usage.chilled ∙ k.chilled });
+  numbered = numbers_next mark new birth e h p (shown (look_at page)) false s.numbered s.looks t.undirtied (rw is refl)
+      (rw is (still_bare birth e h p (shown (look_at page)) (shown (look_at page)) mark.unzeroed (t.looks ∙ s.looks) (λ bare. bare)));
 }
 
 pub hints_page : (banks : BankPair) (page : Page) (mark new : Mark) (birth : Birth) (e : Entry) (h : List Entry) (p : ℕ) (protects : Bool) →
-    PageStands banks page mark birth h p → Hints birth e h p protects → new ≡ record { pins = mark.pins; always = protects; key = record { used = mark.key.used; generation = mark.key.generation; cold = cond protects mark.key.cold (Some (length h)) } } →
+    PageStands banks page mark birth h p → Hints birth e h p protects → new ≡ record mark { always = protects; key = record { used = mark.key.used; generation = mark.key.generation; cold = cond protects mark.key.cold (Some (length h)) } } →
     PageStands banks page new birth (e ∷ h) p
 hints_page banks page mark new birth e h p protects s t is = record {
   looks = t.looks ∙ s.looks;
@@ -170,17 +185,21 @@ hints_page banks page mark new birth e h p protects s t is = record {
   pinned = rw is (t.pinned ∙ s.pinned);
   protected = rw is t.protected;
   keyed = λ framed. let k = s.keyed framed in rw is (record { place = t.used ∙ k.place; aged = t.aged ∙ k.aged; chilled = t.chilled ∙ ap (λ o. cond protects o (Some (length h))) k.chilled });
+  numbered = numbers_next mark new birth e h p (shown (look_at page)) false s.numbered s.looks t.undirtied (rw is refl)
+      (rw is (still_bare birth e h p (shown (look_at page)) (shown (look_at page)) mark.unzeroed (t.looks ∙ s.looks) (λ bare. bare)));
 }
 
-pub blanks_page : (banks : BankPair) (page : Page) (mark : Mark) (birth : Birth) (e : Entry) (h : List Entry) (p : ℕ) →
-    PageStands banks page mark birth h p → Blanks birth e h p → PageStands banks (Zero Dirty) mark birth (e ∷ h) p
-blanks_page banks page mark birth e h p s t = record {
+pub blanks_page : (banks : BankPair) (page : Page) (mark new : Mark) (birth : Birth) (e : Entry) (h : List Entry) (p : ℕ) →
+    PageStands banks page mark birth h p → Blanks birth e h p → new ≡ record mark { dirtied = next_number h } → PageStands banks (Zero Dirty) new birth (e ∷ h) p
+blanks_page banks page mark new birth e h p s t is = record {
   looks = t.looks;
   bytes = t.bytes;
   owned = tt;
-  pinned = t.marks.pinned ∙ s.pinned;
-  protected = t.marks.protected ∙ s.protected;
+  pinned = rw is (t.marks.pinned ∙ s.pinned);
+  protected = rw is (t.marks.protected ∙ s.protected);
   keyed = λ framed. absurd cc;
+  numbered = numbers_next mark new birth e h p (shown (look_at page)) true s.numbered s.looks t.dirtied (rw is refl)
+      (rw is (still_bare birth e h p (shown (look_at page)) (Zeros Dirty) mark.unzeroed t.looks (λ bare. absurd cc)));
 }
 
 pub fills_page : (banks : BankPair) (page : Page) (frame : Frame) (mark new : Mark) (birth : Birth) (e : Entry) (h : List Entry) (p : ℕ) (given : List ℕ) →
@@ -193,6 +212,8 @@ fills_page banks page frame mark new birth e h p given s t own_kind own same is 
   pinned = rw is (t.marks.pinned ∙ s.pinned);
   protected = rw is (t.marks.protected ∙ s.protected);
   keyed = λ framed. rw is (fresh_stands birth e h p t.fresh);
+  numbered = numbers_next mark new birth e h p (shown (look_at page)) false s.numbered s.looks t.undirtied (rw is refl)
+      (λ bare. rw (is, ap is_zeros (sym s.looks ∙ t.missing)) refl);
 }
 
 -- The whole, one page further.
@@ -213,10 +234,12 @@ rest_next rest pages birth e h done s = record {
   wide = s.wide;
   asks = s.asks;
   tallied = s.tallied;
+  numbered = s.numbered;
   epoch = s.epoch;
   leaving = s.leaving;
   few = s.few;
   room = s.room;
+  place = s.place;
 }
 
 pub steps : (banks : BankPair) (pages pages' : PageMap) (marks marks' : List Mark) (brings : FrameKind) (given given' back back' : Stock) (rest : Rest) (birth : Birth) (e : Entry) (h : List Entry) (done : Done) →
@@ -373,12 +396,19 @@ fill_given banks brings page frame frame' mark new birth e h p bytes kinds bank 
       pinned = rw is (t.marks.pinned ∙ s.pinned);
       protected = rw is (t.marks.protected ∙ s.protected);
       keyed = λ framed. rw is (fresh_stands birth e h p t.fresh);
+      numbered = numbers_next mark new birth e h p (shown (look_at page)) false s.numbered s.looks t.undirtied (rw is refl)
+          (λ bare. rw (is, ap is_zeros (sym s.looks ∙ t.missing)) refl);
     }
 
 -- a frame that has the bytes of a page
 pub record HasBytes (page : Page) (frame : Frame) : Type 0 where
   pub whole : length frame.bytes ≡ 4096
   pub each : (i : ℕ) → i < 4096 → content page i ≡ Some (get_or frame.bytes i 0)
+
+framed_bare : (look : PageLook) → has_frame look ≡ true → is_zeros look ≡ false
+framed_bare Missing framed = absurd cc
+framed_bare (Zeros state) framed = absurd cc
+framed_bare (Framed state loan) framed = refl
 
 pub reframe_given : (banks : BankPair) (brings : FrameKind) (page : Page) (frame : Frame) (mark : Mark) (birth : Birth) (e : Entry) (h : List Entry) (p : ℕ) (state : PageState) →
     (banks.ordinary.kind ≡ Ordinary) × (banks.loaned.kind ≡ Loaned) → frame.bank ≡ bank_of banks brings → HasBytes page frame →
@@ -390,11 +420,13 @@ reframe_given banks brings page frame mark birth e h p state kinds bank copy s t
   pinned = t.turns.marks.pinned ∙ s.pinned;
   protected = t.turns.marks.protected ∙ s.protected;
   keyed = λ framed. key_turns birth e h p mark _ t.turns (s.keyed (ap has_frame (sym s.looks) ∙ t.framed));
+  numbered = numbers_next mark mark birth e h p (shown (look_at page)) false s.numbered s.looks t.turns.undirtied refl
+      (λ bare. rw (framed_bare (shown (look_at page)) (ap has_frame (sym s.looks) ∙ t.framed)) refl);
 }
 
 pub pin_given : (banks : BankPair) (brings : FrameKind) (page : Page) (frame : Frame) (mark new : Mark) (birth : Birth) (e : Entry) (h : List Entry) (p : ℕ) (state : PageState) →
     (banks.ordinary.kind ≡ Ordinary) × (banks.loaned.kind ≡ Loaned) → frame.bank ≡ bank_of banks brings → is_loan brings ≡ false → HasBytes page frame → state ≡ state_shown (shown (look_at page)) →
-    PageStands banks page mark birth h p → PinsOne birth e h p → new ≡ record { pins = mark.pins + 1; always = mark.always; key = record { used = length h; generation = newest_epoch (e ∷ h); cold = None } } →
+    PageStands banks page mark birth h p → PinsOne birth e h p → new ≡ record (bared (shown (look_at page)) (next_number h) mark) { pins = mark.pins + 1; key = record { used = length h; generation = newest_epoch (e ∷ h); cold = None } } →
     PageStands banks (HeldPage frame state) new birth (e ∷ h) p
 pin_given banks brings page frame mark new birth e h p state kinds bank lends copy now s t is =
     let shows : is_present (shown (look_at page)) ≡ true = ap is_present (sym s.looks) ∙ t.present in record {
@@ -404,10 +436,11 @@ pin_given banks brings page frame mark new birth e h p state kinds bank lends co
       pinned = rw is (t.pinned ∙ ap suc s.pinned ∙ one_more mark.pins);
       protected = rw is (t.protected ∙ s.protected);
       keyed = λ framed. rw is (fresh_stands birth e h p t.fresh);
+      numbered = numbers_next mark new birth e h p (shown (look_at page)) false s.numbered s.looks t.undirtied (rw is refl) (λ bare. rw is refl);
     }
 
 pub pin_place : (banks : BankPair) (page : Page) (mark new : Mark) (birth : Birth) (e : Entry) (h : List Entry) (p : ℕ) → lacks_own_frame (look_of birth h p) ≡ false →
-    PageStands banks page mark birth h p → PinsOne birth e h p → new ≡ record { pins = mark.pins + 1; always = mark.always; key = record { used = length h; generation = newest_epoch (e ∷ h); cold = None } } →
+    PageStands banks page mark birth h p → PinsOne birth e h p → new ≡ record mark { pins = mark.pins + 1; key = record { used = length h; generation = newest_epoch (e ∷ h); cold = None } } →
     PageStands banks page new birth (e ∷ h) p
 pin_place banks page mark new birth e h p own s t is = record {
   looks = t.looks ∙ pinned_own (look_of birth h p) t.present own ∙ s.looks;
@@ -416,11 +449,13 @@ pin_place banks page mark new birth e h p own s t is = record {
   pinned = rw is (t.pinned ∙ ap suc s.pinned ∙ one_more mark.pins);
   protected = rw is (t.protected ∙ s.protected);
   keyed = λ framed. rw is (fresh_stands birth e h p t.fresh);
+  numbered = numbers_next mark new birth e h p (shown (look_at page)) false s.numbered s.looks t.undirtied (rw is refl)
+      (λ bare. rw (is, own_bare (shown (look_at page)) (ap lacks_own_frame (sym s.looks) ∙ own)) refl);
 }
 
 pub write_given : (banks : BankPair) (brings : FrameKind) (page : Page) (frame frame' : Frame) (mark new : Mark) (birth : Birth) (e : Entry) (h : List Entry) (p at : ℕ) (bytes : List ℕ) →
     (banks.ordinary.kind ≡ Ordinary) × (banks.loaned.kind ≡ Loaned) → frame.bank ≡ bank_of banks brings → is_loan brings ≡ false → HasBytes page frame → at + length bytes ≤ 4096 →
-    frame' ≡ record frame { bytes = written frame.bytes at bytes } → PageStands banks page mark birth h p → Writes birth e h p at bytes → new ≡ used_mark (length h) (newest_epoch (e ∷ h)) mark →
+    frame' ≡ record frame { bytes = written frame.bytes at bytes } → PageStands banks page mark birth h p → Writes birth e h p at bytes → new ≡ record (bared (shown (look_at page)) (next_number h) mark) { key = record { used = length h; generation = newest_epoch (e ∷ h); cold = None }; dirtied = next_number h } →
     PageStands banks (HeldPage frame' Dirty) new birth (e ∷ h) p
 write_given banks brings page frame frame' mark new birth e h p at bytes kinds bank lends copy fits made s t is =
     let made_bank : frame'.bank ≡ bank_of banks brings = ap (λ (f : Frame). f.bank) made ∙ bank in
@@ -431,6 +466,7 @@ write_given banks brings page frame frame' mark new birth e h p at bytes kinds b
       pinned = rw is (t.marks.pinned ∙ s.pinned);
       protected = rw is (t.marks.protected ∙ s.protected);
       keyed = λ framed. rw is (fresh_stands birth e h p t.fresh);
+      numbered = numbers_next mark new birth e h p (shown (look_at page)) true s.numbered s.looks t.dirtied (rw is refl) (λ bare. rw is refl);
     }
 
 -- what a write makes of a page that has a frame of its own
@@ -450,7 +486,7 @@ write_own banks (HeldPage frame state) at bytes own here lacks fits = record {
 }
 
 pub write_place : (banks : BankPair) (page : Page) (mark new : Mark) (birth : Birth) (e : Entry) (h : List Entry) (p at : ℕ) (bytes : List ℕ) → lacks_own_frame (look_of birth h p) ≡ false → at + length bytes ≤ 4096 →
-    PageStands banks page mark birth h p → Writes birth e h p at bytes → new ≡ used_mark (length h) (newest_epoch (e ∷ h)) mark →
+    PageStands banks page mark birth h p → Writes birth e h p at bytes → new ≡ record mark { key = record { used = length h; generation = newest_epoch (e ∷ h); cold = None }; dirtied = next_number h } →
     PageStands banks (page_with_state Dirty (overwritten at bytes page)) new birth (e ∷ h) p
 write_place banks page mark new birth e h p at bytes own fits s t is =
     let w = write_own banks page at bytes s.owned (ap is_present (sym s.looks) ∙ t.present) (ap lacks_own_frame (sym s.looks) ∙ own) fits in record {
@@ -460,6 +496,53 @@ write_place banks page mark new birth e h p at bytes own fits s t is =
       pinned = rw is (t.marks.pinned ∙ s.pinned);
       protected = rw is (t.marks.protected ∙ s.protected);
       keyed = λ framed. rw is (fresh_stands birth e h p t.fresh);
+      numbered = numbers_next mark new birth e h p (shown (look_at page)) true s.numbered s.looks t.dirtied (rw is refl)
+          (λ bare. rw (is, own_bare (shown (look_at page)) (ap lacks_own_frame (sym s.looks) ∙ own)) refl);
+    }
+
+-- Leave to make it dirty.
+
+key_lets : (birth : Birth) (e : Entry) (h : List Entry) (p : ℕ) (mark new : Mark) → LetsDirty birth e h p → new.key ≡ mark.key → KeyStands mark.key birth h p → KeyStands new.key birth (e ∷ h) p
+key_lets birth e h p mark new t same k = rw same (record { place = t.usage.used ∙ k.place; aged = t.usage.aged ∙ k.aged; chilled = t.usage.chilled ∙ k.chilled })
+
+loan_framed : (look : PageLook) → has_loan look ≡ true → (has_frame look ≡ true) × (dirtied_look look ≡ Framed Dirty false)
+loan_framed Missing is = absurd cc
+loan_framed (Zeros state) is = absurd cc
+loan_framed (Framed state loan) is = (refl, refl)
+
+unlent_dirtied : (look : PageLook) → has_loan look ≡ false → dirtied_look look ≡ with_state Dirty look
+unlent_dirtied Missing is = refl
+unlent_dirtied (Zeros state) is = refl
+unlent_dirtied (Framed state loan) is = ap (λ b. Framed Dirty b) (sym is)
+
+pub dirty_place : (banks : BankPair) (page : Page) (mark new : Mark) (birth : Birth) (e : Entry) (h : List Entry) (p : ℕ) → has_loan (look_of birth h p) ≡ false →
+    PageStands banks page mark birth h p → LetsDirty birth e h p → new ≡ record mark { dirtied = next_number h } → PageStands banks (page_with_state Dirty page) new birth (e ∷ h) p
+dirty_place banks page mark new birth e h p own s t is =
+    let shows : look_of birth (e ∷ h) p ≡ shown (look_at (page_with_state Dirty page)) = t.looks ∙ unlent_dirtied (look_of birth h p) own ∙ ap (with_state Dirty) s.looks ∙ state_shows Dirty page in record {
+      looks = shows;
+      bytes = λ i lt. t.bytes i lt ∙ s.bytes i lt ∙ state_content Dirty page i;
+      owned = state_own banks Dirty page s.owned;
+      pinned = rw is (t.marks.pinned ∙ s.pinned);
+      protected = rw is (t.marks.protected ∙ s.protected);
+      keyed = λ framed. key_lets birth e h p mark new t (rw is refl) (s.keyed (state_framed Dirty page framed));
+      numbered = numbers_next mark new birth e h p (shown (look_at page)) true s.numbered s.looks t.dirtied (rw is refl)
+          (rw is (still_bare birth e h p (shown (look_at page)) (shown (look_at (page_with_state Dirty page))) mark.unzeroed shows (state_bare Dirty page)));
+    }
+
+pub dirty_given : (banks : BankPair) (brings : FrameKind) (page : Page) (frame : Frame) (mark new : Mark) (birth : Birth) (e : Entry) (h : List Entry) (p : ℕ) → has_loan (look_of birth h p) ≡ true →
+    (banks.ordinary.kind ≡ Ordinary) × (banks.loaned.kind ≡ Loaned) → frame.bank ≡ bank_of banks brings → is_loan brings ≡ false → HasBytes page frame →
+    PageStands banks page mark birth h p → LetsDirty birth e h p → new ≡ record mark { dirtied = next_number h } → PageStands banks (HeldPage frame Dirty) new birth (e ∷ h) p
+dirty_given banks brings page frame mark new birth e h p lent kinds bank lends copy s t is =
+    let was = loan_framed (look_of birth h p) lent in
+    let had : has_frame (shown (look_at page)) ≡ true = ap has_frame (sym s.looks) ∙ was.0 in record {
+      looks = t.looks ∙ was.1 ∙ framed_look banks brings frame Dirty false kinds bank lends;
+      bytes = λ i lt. t.bytes i lt ∙ s.bytes i lt ∙ copy.each i lt;
+      owned = own_given banks brings frame kinds bank copy.whole;
+      pinned = rw is (t.marks.pinned ∙ s.pinned);
+      protected = rw is (t.marks.protected ∙ s.protected);
+      keyed = λ framed. key_lets birth e h p mark new t (rw is refl) (s.keyed had);
+      numbered = numbers_next mark new birth e h p (shown (look_at page)) true s.numbered s.looks t.dirtied (rw is refl)
+          (λ bare. rw (is, framed_bare (shown (look_at page)) had) refl);
     }
 
 -- two changes of the page at the mark

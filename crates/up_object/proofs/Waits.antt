@@ -363,9 +363,11 @@ answered banks pages marks brings given back rest asks birth e h done asks_done 
     wide = s.others.wide;
     asks = now;
     tallied = s.others.tallied;
+    numbered = s.others.numbered;
     epoch = s.others.epoch;
     leaving = s.others.leaving;
     few = s.others.few;
     room = s.others.room;
+    place = s.others.place;
   };
 }

@@ -1,6 +1,6 @@
 -- An object in the middle of a call. The call's pages go one by one, at a mark, from the journal before the call's entry to
 -- the journal with it. Frames that were given wait to be used, and those that come back wait to be handed over.
-use Rattle.std.specs.Prelude.{◌≡◌, ℕ, ◌+◌, ◌-◌, ◌<◌, ◌≤◌, ◌&&◌, Bool, true, false, cond, List, [], ◌∷◌, length, nat_le, nat_lt}
+use Rattle.std.specs.Prelude.{◌≡◌, ℕ, ◌+◌, ◌-◌, ◌<◌, ◌≤◌, ◌&&◌, Bool, true, false, cond, List, [], ◌∷◌, length, option_to_list, nat_le, nat_lt}
 use Rattle.up_bank.specs.Standing.{BankId, Held as Frame}
 use Rattle.up_bank.specs.declared.kind.FrameKind.{FrameKind}
 use Rattle.up_bank.specs.declared.kind.FrameKind.TheVariants.{Ordinary, Loaned}
@@ -18,6 +18,7 @@ use Rattle.up_model.specs.declared.entry.Entry.{Entry}
 use Rattle.up_object.specs.declared.marks.Mark.{Mark}
 use Rattle.up_object.specs.Parts.{BankPair, bank_of, PageStands, mark_at}
 use Rattle.up_object.specs.Whole.{Whole}
+use Rattle.up_object.specs.Numbers.{Numbered, BeginsStand, begin_in}
 use Rattle.up_object.specs.Asks.{AskRoom, AsksStandFor}
 use Rattle.up_object.specs.Stands.{Tally, TallyStands, seat, reserved, leaves_after}
 
@@ -115,20 +116,24 @@ pub record Rest : Type 0 where
   pub queue : Queue
   pub asks : Asking
   pub tally : Tally
+  pub numbers : Numbered
   pub newest : ℕ
   pub leaves : ℕ
   pub spare : ℕ
 
--- it stands for the journal before the entry, or with it where it is done; the queues wait for the end of the call
+-- it stands for the journal before the entry, or with it where it is done; the queues and the begins wait for the end of the call, and
+-- there is room for the entry, and for the begin that it gives a number
 pub record RestStands (rest : Rest) (pages : ℕ) (birth : Birth) (e : Entry) (h : List Entry) (done : Done) : Type 0 where
   pub queued : (p : ℕ) → find_page rest.queue.items p ≡ seat birth h p
   pub wide : pages ≤ rest.queue.room
   pub asks : AsksStandFor rest.asks birth (up_to done.asks e h) (up_to done.spent e h)
   pub tallied : TallyStands rest.tally birth (up_to done.tally e h)
+  pub numbered : BeginsStand rest.numbers.begins h
   pub epoch : newest_epoch h ≡ rest.newest
   pub leaving : rest.leaves ≡ reserved birth h
   pub few : rest.leaves ≤ 128
   pub room : leaves_after e.call rest.leaves < rest.spare
+  pub place : length (option_to_list (begin_in e)) ≤ rest.numbers.spare
 
 pub record ChangeStandsFor (banks : BankPair) (pages : PageMap) (marks : List Mark) (brings : FrameKind) (given back : Stock) (rest : Rest)
     (birth : Birth) (e : Entry) (h : List Entry) (done : Done) : Type 0 where

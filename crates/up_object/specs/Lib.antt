@@ -4,6 +4,7 @@ pub mod Asks
 pub mod Change
 pub mod Changing
 pub mod Whole
+pub mod Numbers
 pub mod Object
 pub mod Ordering
 pub mod Roles

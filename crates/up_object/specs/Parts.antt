@@ -18,6 +18,7 @@ use Rattle.up_model.specs.declared.entry.Birth.{Birth}
 use Rattle.up_model.specs.declared.entry.Entry.{Entry}
 use Rattle.up_object.specs.declared.marks.Mark.{Mark}
 use Rattle.up_object.specs.declared.marks.Key.{Key}
+use Rattle.up_object.specs.Numbers.{NumbersStand}
 
 -- the banks that an object was born with
 pub record BankPair : Type 0 where
@@ -63,7 +64,7 @@ HasOwn banks (HeldPage frame state) = IsOwn banks frame
 
 -- the mark of a page that has none
 abbrev pub no_mark : Mark
-no_mark = record { pins = 0; always = false; key = record { used = 0; generation = 0; cold = None } }
+no_mark = record { pins = 0; always = false; key = record { used = 0; generation = 0; cold = None }; dirtied = 0; unzeroed = 0 }
 
 abbrev pub mark_at : List Mark → ℕ → Mark
 mark_at marks p = slice_index_or marks p no_mark
@@ -82,3 +83,4 @@ pub record PageStands (banks : BankPair) (page : Page) (mark : Mark) (birth : Bi
   pub pinned : pins h p ≡ mark.pins
   pub protected : always birth h p ≡ mark.always
   pub keyed : has_frame (shown (look_at page)) ≡ true → KeyStands mark.key birth h p
+  pub numbered : NumbersStand mark birth h p

@@ -25,6 +25,7 @@ use Rattle.up_object.specs.declared.marks.Mark.{Mark}
 use Rattle.up_object.specs.declared.marks.Key.{Key}
 use Rattle.up_object.specs.declared.tally.Tally.{Tally as TallyValue}
 use Rattle.up_object.specs.Asks.{AsksStand}
+use Rattle.up_object.specs.Numbers.{Numbered, BeginsStand}
 use Rattle.up_object.specs.Parts.{BankPair, PageStands, mark_at, shown}
 
 abbrev pub Tally : Type 0
@@ -82,7 +83,7 @@ item_of pages marks asks p =
     cond (may_go (shown (look_at (page_at pages p))) (mark_at marks p) (asked_in asks DirtyAsk p)) (Some (keyed_item p (mark_at marks p).key)) None
 
 -- the parts of an object stand for its journal, which is legal
-pub record StandsFor (banks : BankPair) (pages : PageMap) (marks : List Mark) (queue : Queue) (asking : Asking) (tally : Tally) (newest leaves spare : ℕ) (birth : Birth) (h : List Entry) : Type 0 where
+pub record StandsFor (banks : BankPair) (pages : PageMap) (marks : List Mark) (queue : Queue) (asking : Asking) (tally : Tally) (numbers : Numbered) (newest leaves spare : ℕ) (birth : Birth) (h : List Entry) : Type 0 where
   pub legal : Legal birth h
   pub kinds : (banks.ordinary.kind ≡ Ordinary) × (banks.loaned.kind ≡ Loaned)
   pub sized : size_of pages ≡ size birth h
@@ -92,6 +93,7 @@ pub record StandsFor (banks : BankPair) (pages : PageMap) (marks : List Mark) (q
   pub wide : size_of pages ≤ queue.room
   pub asks : AsksStand asking birth h
   pub tallied : TallyStands tally birth h
+  pub numbered : BeginsStand numbers.begins h
   pub epoch : newest_epoch h ≡ newest
   pub leaving : leaves ≡ reserved birth h
   pub few : leaves ≤ 128

@@ -6,13 +6,16 @@ ghost use Rattle.up_pages.specs.Pages.{page_at, size_of, frame_of, held_by};
 ghost use Rattle.up_pages.specs.declared.page.Page.TheVariants.{Absent};
 ghost use Rattle.up_queues.specs.Queue.{find_page};
 ghost use Rattle.up_model.specs.Deeds.{has_page};
+ghost use Rattle.up_model.specs.States.{plain};
 ghost use Rattle.up_model.specs.Concerns.{concerns, keeps_asks, keeps_spent, keeps_roles, keeps_modified, keeps_size};
 ghost use Rattle.up_model.specs.Changes.{Goes, IsDue};
 ghost use Rattle.up_object.specs.Parts.{BankPair, HasOwn};
 ghost use Rattle.up_object.specs.Change.{AllOwn};
+ghost use Rattle.up_object.specs.Numbers.{begin_in};
 ghost use Rattle.up_object.specs.Whole.{held, with_entry};
 
 use crate::closing::leaves_left;
+use crate::numbers::Numbers;
 use crate::object::Object;
 use crate::parts::take_room;
 use std::alloc::{AllocError, Global};
@@ -73,7 +76,9 @@ fn take_pages(pages: &mut PageList, queues: &mut Queues, back: &mut Frames, list
 
 /// Takes the room for an entry above those reserved for leaves, and for so many pages that go.
 fn make_room(
+    entry: &Entry,
     log: &mut Log,
+    numbers: &mut Numbers,
     pages: &mut PageList,
     back: &mut Frames,
     leaves: u32,
@@ -82,17 +87,19 @@ fn make_room(
     requires few { leaves ≤ 128 }
     ensures entries { log.new.entries ≡ log.old.entries }
     ensures spare { log.old.spare ≤ log.new.spare }
+    ensures begins { numbers.new.begins ≡ numbers.old.begins }
     ensures pages { (p : ℕ) → page_at pages.new p ≡ page_at pages.old p }
     ensures size { size_of pages.new ≡ size_of pages.old }
     ensures items { back.new.items ≡ back.old.items }
     ensures enough { OnOk result (leaves < log.new.spare) }
+    ensures place { OnOk result (length (option_to_list (begin_in entry.now)) ≤ numbers.new.spare) }
     ensures ready { OnOk result (count ≤ pages.new.spare) }
     ensures room { OnOk result (length back.new.items + count ≤ back.new.room) }
 {
     let Ok(count) = u32::try_from(count) else {
         return Err(AllocError);
     };
-    take_room(log, pages, back, leaves, count, 0)
+    take_room(entry, log, numbers, pages, back, leaves, count, 0)
 }
 
 /// Makes a call that takes the pages of a list away, in any order, and changes nothing else. Their frames come back.
@@ -103,6 +110,7 @@ pub fn evict(
     list: &PageSeq,
 ) -> Result<(Object, Frames), (Memory, Object)>
     requires goes { (p : ℕ) → has_page list.now p ≡ true → Goes object.birth entry object.journal p }
+    requires bare { (p : ℕ) → has_page list.now p ≡ true → plain object.birth object.journal p ≡ false }
     requires pages { (p : ℕ) → has_page list.now p ≡ false → concerns object.birth object.journal entry p ≡ false }
     requires asks { keeps_asks entry ≡ true }
     requires spent { keeps_spent entry ≡ true }
@@ -122,13 +130,22 @@ pub fn evict(
         mut queues,
         asks,
         tally,
+        mut numbers,
         newest,
         leaves,
         mut log,
     } = object;
     let mut back = Frames::new(alloc);
     let left = leaves_left(&entry.call, leaves);
-    if let Err(memory) = make_room(&mut log, &mut pages, &mut back, left, list.len()) {
+    if let Err(memory) = make_room(
+        &entry,
+        &mut log,
+        &mut numbers,
+        &mut pages,
+        &mut back,
+        left,
+        list.len(),
+    ) {
         back.end();
         let object = Object {
             birth,
@@ -138,6 +155,7 @@ pub fn evict(
             queues,
             asks,
             tally,
+            numbers,
             newest,
             leaves,
             log,
@@ -146,6 +164,7 @@ pub fn evict(
     }
     take_pages(&mut pages, &mut queues, &mut back, list.as_slice());
     let newest = entry.epoch.max(newest);
+    numbers.add(&entry);
     log.push(entry);
     let object = Object {
         birth,
@@ -155,6 +174,7 @@ pub fn evict(
         queues,
         asks,
         tally,
+        numbers,
         newest,
         leaves: left,
         log,

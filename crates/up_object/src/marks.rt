@@ -14,16 +14,19 @@ pub struct Key {
     pub cold: Option<u64>,
 }
 
-/// A page's pins, whether it is protected, and its use.
+/// A page's pins, whether it is protected, its use, and how many begins had a number when it was dirtied last, and when it was a
+/// zero page last. The latter isn't kept while it is one.
 #[derive(Clone, Copy, PartialEq, Eq, Debug)]
 pub struct Mark {
     pub pins: u32,
     pub always: bool,
     pub key: Key,
+    pub dirtied: u64,
+    pub unzeroed: u64,
 }
 
 impl Mark {
-    /// No pin, no hint, no use.
+    /// No pin, no hint, no use, no number.
     pub fn none() -> Mark
         ensures { result ≡ no_mark }
     {
@@ -36,6 +39,8 @@ impl Mark {
             pins: 0,
             always: false,
             key,
+            dirtied: 0,
+            unzeroed: 0,
         }
     }
 }

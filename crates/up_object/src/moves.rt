@@ -1,8 +1,11 @@
 ghost use Rattle.std.specs.Prelude.{◌≡◌, ℕ, ◌+◌, ◌<◌, ◌∷◌, [], ◌++◌, length, get_or, Some, true};
 ghost use Rattle.up_model.specs.Looks as looks;
 ghost use Rattle.up_pages.specs.Pages.{page_at, look_of as look_at};
-ghost use Rattle.up_object.specs.Parts.{shown, content, state_shown};
+ghost use Rattle.up_object.specs.Parts.{shown, content, state_shown, mark_at};
+ghost use Rattle.up_object.specs.Numbers as numbering;
 
+use crate::marks::{Mark, Marks};
+use crate::numbers::Numbers;
 use up_bank::{Frame, FrameKind};
 use up_num::{PageNo, PageState};
 use up_pages::{Frames, Look, PageList};
@@ -17,6 +20,44 @@ pub(crate) fn lacks_own(look: Look) -> bool
         Look::Held(_, FrameKind::Ordinary) => false,
         Look::Held(_, FrameKind::Loaned) => true,
     }
+}
+
+/// Whether leave to make it dirty gives the page another frame.
+pub(crate) fn has_loan(look: Look) -> bool
+    ensures { result ≡ looks.has_loan (shown look) }
+{
+    match look {
+        Look::Held(_, FrameKind::Loaned) => true,
+        _ => false,
+    }
+}
+
+pub(crate) fn is_zeros(look: Look) -> bool
+    ensures { result ≡ numbering.is_zeros (shown look) }
+{
+    match look {
+        Look::Zero(_) => true,
+        _ => false,
+    }
+}
+
+/// The mark of a page that is no zero page after an entry, where so many begins have a number before it.
+fn bared_by(look: Look, number: u64, mark: Mark) -> Mark
+    ensures { result ≡ numbering.bared (shown look) number mark }
+{
+    let unzeroed = if is_zeros(look) {
+        number
+    } else {
+        mark.unzeroed
+    };
+    Mark { unzeroed, ..mark }
+}
+
+/// The mark of a page that is no zero page after an entry, where these begins have numbers before it.
+pub(crate) fn bared(pages: &PageList, marks: &Marks, numbers: &Numbers, page: u32) -> Mark
+    ensures { result ≡ numbering.bared (shown (look_at (page_at pages.now page))) (length numbers.now.begins) (mark_at marks.now page) }
+{
+    bared_by(pages.look(PageNo(page)), numbers.count(), marks.at(page))
 }
 
 /// The last of some frames.

@@ -12,6 +12,7 @@ ghost use Rattle.up_object.specs.Parts.{shown};
 
 use crate::banks::Banks;
 use crate::marks::Marks;
+use crate::numbers::Numbers;
 use crate::tally::Tally;
 use std::alloc::Global;
 use std::marker::Model;
@@ -32,6 +33,7 @@ pub struct Object {
     pub(crate) queues: Queues,
     pub(crate) asks: Asks,
     pub(crate) tally: Tally,
+    pub(crate) numbers: Numbers,
     pub(crate) newest: u64,
     pub(crate) leaves: u32,
     pub(crate) log: Log,
@@ -80,6 +82,7 @@ impl Object {
             modified: false,
         };
         let asks = Asks::new(alloc)?;
+        let numbers = Numbers::new(alloc);
         let pages = PageList::new(alloc, birth.pages)?;
         Ok(Object {
             birth,
@@ -89,6 +92,7 @@ impl Object {
             queues,
             asks,
             tally,
+            numbers,
             newest: 0,
             leaves,
             log,
@@ -110,6 +114,7 @@ impl Object {
             queues: _,
             asks: _,
             tally: _,
+            numbers: _,
             newest: _,
             leaves: _,
             log,

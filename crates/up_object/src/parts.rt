@@ -1,13 +1,14 @@
-ghost use Rattle.std.specs.Prelude.{◌≡◌, ℕ, ◌+◌, ◌-◌, ◌<◌, ◌≤◌, ◌==◌, ◌&&◌, ◌∷◌, true, false, length, nat_le, nat_lt, None, IfOk, IfErr, OnOk};
+ghost use Rattle.std.specs.Prelude.{◌≡◌, ℕ, ◌+◌, ◌-◌, ◌<◌, ◌≤◌, ◌==◌, ◌&&◌, ◌∷◌, true, false, length, option_to_list, nat_le, nat_lt, None, IfOk, IfErr, OnOk};
 ghost use Rattle.up_bank.specs.declared.kind.FrameKind.{FrameKind as FrameKindValue};
 ghost use Rattle.up_num.specs.declared.answers.AskKind.{AskKind as AskKindValue};
 ghost use Rattle.up_asks.specs.Asking.{pages_of, SameAsks};
 ghost use Rattle.up_model.specs.Looks as looks;
 ghost use Rattle.up_model.specs.Use.{newest_epoch};
-ghost use Rattle.up_model.specs.Changes.{SamePage, SetsState, Reframes, Uses, Fills, Writes, PinsOne, UnpinsOne, Hints, Blanks, Goes, IsDue};
+ghost use Rattle.up_model.specs.Changes.{SamePage, SetsState, Reframes, Uses, Fills, Writes, LetsDirty, PinsOne, UnpinsOne, Hints, Blanks, Goes, IsDue};
 ghost use Rattle.up_object.specs.Parts.{shown, is_loan, bank_of};
 ghost use Rattle.up_object.specs.Change.{next, next_using, is_done, of_kind, opened, AllAre, AllOwn, Rests};
 ghost use Rattle.up_object.specs.Whole.{held, with_entry};
+ghost use Rattle.up_object.specs.Numbers.{begin_in};
 ghost use Rattle.up_pages.specs.Frames.{count_kind};
 ghost use Rattle.up_pages.specs.Pages.{page_at, size_of};
 ghost use Rattle.up_model.specs.Size.{size};
@@ -16,7 +17,8 @@ ghost use Rattle.up_model.specs.Concerns.{concerns, keeps_asks, keeps_spent, kee
 use crate::banks::Banks;
 use crate::closing::{hand_over, leaves_left};
 use crate::marks::{Key, Mark, Marks};
-use crate::moves::{copy_to, lacks_own, last_of, state_in};
+use crate::moves::{bared, copy_to, has_loan, lacks_own, last_of, state_in};
+use crate::numbers::Numbers;
 use crate::object::Object;
 use crate::seating::settle;
 use crate::tally::Tally;
@@ -39,6 +41,7 @@ pub struct Changing {
     pub(crate) queues: Queues,
     pub(crate) asks: Asks,
     pub(crate) tally: Tally,
+    pub(crate) numbers: Numbers,
     pub(crate) newest: u64,
     pub(crate) leaves: u32,
     pub(crate) log: Log,
@@ -166,8 +169,11 @@ impl Changing {
         requires blanks { Blanks self.old.birth self.old.entry self.old.journal self.old.done.mark }
         ensures { self.new ≡ next self.old }
     {
+        let dirtied = self.numbers.count();
+        let old = self.marks.at(self.mark);
         let displaced = self.pages.set_zero(PageNo(self.mark), PageState::Dirty);
         self.back.put_some(displaced);
+        self.marks.set(self.mark, Mark { dirtied, ..old });
         self.mark += 1;
     }
 
@@ -177,8 +183,10 @@ impl Changing {
         requires goes { Goes self.old.birth self.old.entry self.old.journal self.old.done.mark }
         ensures { self.new ≡ next self.old }
     {
+        let mark = bared(&self.pages, &self.marks, &self.numbers, self.mark);
         let displaced = self.pages.take(PageNo(self.mark));
         self.back.put_some(displaced);
+        self.marks.set(self.mark, mark);
         self.mark += 1;
     }
 
@@ -255,7 +263,7 @@ impl Changing {
         let key = self.fresh_key();
         let page = PageNo(self.mark);
         let state = state_in(self.pages.look(page));
-        let old = self.marks.at(self.mark);
+        let old = bared(&self.pages, &self.marks, &self.numbers, self.mark);
         let pins = old.pins + 1;
         let mut frame = last_of(&mut self.given);
         copy_to(&self.pages, page, &mut frame);
@@ -290,11 +298,17 @@ impl Changing {
         ensures { self.new ≡ next self.old }
     {
         let key = self.fresh_key();
+        let dirtied = self.numbers.count();
         let page = PageNo(self.mark);
         let old = self.marks.at(self.mark);
         self.pages.write_at(page, at, bytes);
         self.pages.set_state(page, PageState::Dirty);
-        self.marks.set(self.mark, Mark { key, ..old });
+        let mark = Mark {
+            key,
+            dirtied,
+            ..old
+        };
+        self.marks.set(self.mark, mark);
         self.mark += 1;
     }
 
@@ -307,14 +321,67 @@ impl Changing {
         ensures { self.new ≡ next_using true self.old }
     {
         let key = self.fresh_key();
+        let dirtied = self.numbers.count();
         let page = PageNo(self.mark);
-        let old = self.marks.at(self.mark);
+        let old = bared(&self.pages, &self.marks, &self.numbers, self.mark);
         let mut frame = last_of(&mut self.given);
         copy_to(&self.pages, page, &mut frame);
         frame.set(at, bytes);
         let displaced = self.pages.put(page, frame, PageState::Dirty);
         self.back.put_some(displaced);
-        self.marks.set(self.mark, Mark { key, ..old });
+        let mark = Mark {
+            key,
+            dirtied,
+            ..old
+        };
+        self.marks.set(self.mark, mark);
+        self.mark += 1;
+    }
+
+    /// Lets the page at the mark get dirty. Its frame is exchanged for a given one where it is loaned.
+    pub fn dirty(&mut self)
+        requires left { self.old.done.mark < self.old.done.limit }
+        requires frame { looks.has_loan (looks.look_of self.old.birth self.old.journal self.old.done.mark) ≡ true → 0 < self.old.given }
+        requires ordinary { is_loan self.old.brings ≡ false }
+        requires dirties { LetsDirty self.old.birth self.old.entry self.old.journal self.old.done.mark }
+        ensures { self.new ≡ next_using (looks.has_loan (looks.look_of self.old.birth self.old.journal self.old.done.mark)) self.old }
+    {
+        if has_loan(self.look()) {
+            self.dirty_in_given();
+        } else {
+            self.dirty_in_place();
+        }
+    }
+
+    fn dirty_in_place(&mut self)
+        requires left { self.old.done.mark < self.old.done.limit }
+        requires own { looks.has_loan (looks.look_of self.old.birth self.old.journal self.old.done.mark) ≡ false }
+        requires dirties { LetsDirty self.old.birth self.old.entry self.old.journal self.old.done.mark }
+        ensures { self.new ≡ next self.old }
+    {
+        let dirtied = self.numbers.count();
+        let old = self.marks.at(self.mark);
+        self.pages.set_state(PageNo(self.mark), PageState::Dirty);
+        self.marks.set(self.mark, Mark { dirtied, ..old });
+        self.mark += 1;
+    }
+
+    fn dirty_in_given(&mut self)
+        requires left { self.old.done.mark < self.old.done.limit }
+        requires frame { 0 < self.old.given }
+        requires ordinary { is_loan self.old.brings ≡ false }
+        requires loaned { looks.has_loan (looks.look_of self.old.birth self.old.journal self.old.done.mark) ≡ true }
+        requires dirties { LetsDirty self.old.birth self.old.entry self.old.journal self.old.done.mark }
+        ensures { self.new ≡ next_using true self.old }
+    {
+        let dirtied = self.numbers.count();
+        let page = PageNo(self.mark);
+        let old = self.marks.at(self.mark);
+        let mut frame = last_of(&mut self.given);
+        copy_to(&self.pages, page, &mut frame);
+        let displaced = self.pages.put(page, frame, PageState::Dirty);
+        self.back.put_some(displaced);
+        self.marks.set(self.mark, Mark { dirtied, ..old });
         self.mark += 1;
     }
 
@@ -342,6 +409,7 @@ impl Changing {
             mut queues,
             asks,
             tally,
+            mut numbers,
             newest,
             leaves,
             mut log,
@@ -361,6 +429,7 @@ impl Changing {
         hand_over(given, &mut back);
         let newest = entry.epoch.max(newest);
         let leaves = leaves_left(&entry.call, leaves);
+        numbers.add(&entry);
         log.push(entry);
         let object = Object {
             birth,
@@ -370,6 +439,7 @@ impl Changing {
             queues,
             asks,
             tally,
+            numbers,
             newest,
             leaves,
             log,
@@ -378,10 +448,12 @@ impl Changing {
     }
 }
 
-/// Takes the room that a call may need: for its entry above those reserved for leaves, for changes of its pages, for frames that come back,
-/// for a ticket, packets, and changes of the asked pages.
+/// Takes the room that a call may need: for its entry above those reserved for leaves and the begin that it gives a number, for changes of
+/// its pages, for frames that come back, for a ticket, packets, and changes of the asked pages.
 fn take_all_room(
+    entry: &Entry,
     log: &mut Log,
+    numbers: &mut Numbers,
     pages: &mut PageList,
     back: &mut Frames,
     asks: &mut Asks,
@@ -394,11 +466,13 @@ fn take_all_room(
     requires few { leaves ≤ 128 }
     ensures entries { log.new.entries ≡ log.old.entries }
     ensures spare { log.old.spare ≤ log.new.spare }
+    ensures begins { numbers.new.begins ≡ numbers.old.begins }
     ensures pages { (p : ℕ) → page_at pages.new p ≡ page_at pages.old p }
     ensures size { size_of pages.new ≡ size_of pages.old }
     ensures items { back.new.items ≡ back.old.items }
     ensures asks { SameAsks asks.old asks.new }
     ensures enough { OnOk result (leaves < log.new.spare) }
+    ensures place { OnOk result (length (option_to_list (begin_in entry.now)) ≤ numbers.new.spare) }
     ensures ready { OnOk result (count ≤ pages.new.spare) }
     ensures room { OnOk result (length back.new.items + (given + count) ≤ back.new.room) }
     ensures ticket { OnOk result (0 < asks.new.ticket_room) }
@@ -406,12 +480,15 @@ fn take_all_room(
     ensures changes { OnOk result ((kind : AskKindValue) → changes ≤ (pages_of asks.new.pages kind).room) }
 {
     asks.reserve(packets, changes as usize)?;
-    take_room(log, pages, back, leaves, count, given)
+    take_room(entry, log, numbers, pages, back, leaves, count, given)
 }
 
-/// Takes the room that a call may need: for its entry above those reserved for leaves, for changes of its pages, and for frames that come back.
+/// Takes the room that a call may need: for its entry above those reserved for leaves and the begin that it gives a number, for changes of
+/// its pages, and for frames that come back.
 pub(crate) fn take_room(
+    entry: &Entry,
     log: &mut Log,
+    numbers: &mut Numbers,
     pages: &mut PageList,
     back: &mut Frames,
     leaves: u32,
@@ -421,10 +498,12 @@ pub(crate) fn take_room(
     requires few { leaves ≤ 128 }
     ensures entries { log.new.entries ≡ log.old.entries }
     ensures spare { log.old.spare ≤ log.new.spare }
+    ensures begins { numbers.new.begins ≡ numbers.old.begins }
     ensures pages { (p : ℕ) → page_at pages.new p ≡ page_at pages.old p }
     ensures size { size_of pages.new ≡ size_of pages.old }
     ensures items { back.new.items ≡ back.old.items }
     ensures enough { OnOk result (leaves < log.new.spare) }
+    ensures place { OnOk result (length (option_to_list (begin_in entry.now)) ≤ numbers.new.spare) }
     ensures ready { OnOk result (count ≤ pages.new.spare) }
     ensures room { OnOk result (length back.new.items + (given + count) ≤ back.new.room) }
 {
@@ -432,6 +511,7 @@ pub(crate) fn take_room(
         return Err(AllocError);
     };
     log.room(leaves + 1)?;
+    numbers.make_room(entry)?;
     pages.reserve(count)?;
     back.make_room(frames)
 }
@@ -486,6 +566,7 @@ pub fn open_asking(
         queues,
         mut asks,
         tally,
+        mut numbers,
         newest,
         leaves,
         mut log,
@@ -494,7 +575,9 @@ pub fn open_asking(
     let reserved = leaves_left(&entry.call, leaves);
     let count = given.len();
     match take_all_room(
+        &entry,
         &mut log,
+        &mut numbers,
         &mut pages,
         &mut back,
         &mut asks,
@@ -512,6 +595,7 @@ pub fn open_asking(
             queues,
             asks,
             tally,
+            numbers,
             newest,
             leaves,
             log,
@@ -537,6 +621,7 @@ pub fn open_asking(
                 queues,
                 asks,
                 tally,
+                numbers,
                 newest,
                 leaves,
                 log,

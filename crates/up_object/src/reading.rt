@@ -18,7 +18,7 @@ use up_pages::{Look, PageList};
 
 const PAGE_SIZE: u64 = 4096;
 
-fn is_unclean(look: Look) -> bool
+pub(crate) fn is_unclean(look: Look) -> bool
     ensures { result ≡ looks.is_unclean (shown look) }
 {
     match look {

@@ -1,4 +1,4 @@
-ghost use Rattle.std.specs.Prelude.{◌≡◌, ℕ, ◌+◌, ◌-◌, ◌<◌, ◌≤◌, ◌&&◌, ◌∷◌, true, false, length, nat_le, nat_lt, IfOk, IfErr, OnOk, OnErr};
+ghost use Rattle.std.specs.Prelude.{◌≡◌, ℕ, ◌+◌, ◌-◌, ◌<◌, ◌≤◌, ◌&&◌, ◌∷◌, true, false, length, option_to_list, nat_le, nat_lt, IfOk, IfErr, OnOk, OnErr};
 ghost use Rattle.up_num.specs.declared.answers.AskKind.TheVariants.{Dirty as DirtyAsk};
 ghost use Rattle.up_bank.specs.declared.kind.FrameKind.{FrameKind as FrameKindValue};
 ghost use Rattle.up_model.specs.Asks as asks;
@@ -6,6 +6,7 @@ ghost use Rattle.up_model.specs.Size as sizes;
 ghost use Rattle.up_model.specs.Changes.{Vanishes, IsDue};
 ghost use Rattle.up_model.specs.Concerns.{concerns, keeps_asks, keeps_spent, keeps_roles, keeps_modified};
 ghost use Rattle.up_object.specs.Change.{grown, next, at_mark, of_kind, AllOwn};
+ghost use Rattle.up_object.specs.Numbers.{begin_in};
 ghost use Rattle.up_object.specs.Parts.{mark_at};
 ghost use Rattle.up_object.specs.Whole.{held};
 ghost use Rattle.up_pages.specs.Frames.{count_kind};
@@ -14,6 +15,8 @@ ghost use Rattle.up_pages.specs.declared.page.Page.TheVariants.{Absent as Absent
 
 use crate::closing::{hand_over, leaves_left};
 use crate::marks::{Mark, Marks};
+use crate::moves::bared;
+use crate::numbers::Numbers;
 use crate::object::Object;
 use crate::parts::{Changing, take_room};
 use crate::seating::settle;
@@ -27,7 +30,9 @@ use up_queues::Queues;
 /// Takes the room that a call may need that brings pages up to a size, for its entry above those reserved for leaves, and for changes
 /// of these pages; then it brings them.
 fn widen(
+    entry: &Entry,
     log: &mut Log,
+    numbers: &mut Numbers,
     pages: &mut PageList,
     marks: &mut Marks,
     queues: &mut Queues,
@@ -39,6 +44,7 @@ fn widen(
     requires more { size_of pages.old ≤ limit }
     ensures entries { log.new.entries ≡ log.old.entries }
     ensures spare { log.old.spare ≤ log.new.spare }
+    ensures begins { numbers.new.begins ≡ numbers.old.begins }
     ensures pages { (p : ℕ) → page_at pages.new p ≡ page_at pages.old p }
     ensures still { OnErr result (size_of pages.new ≡ size_of pages.old) }
     ensures kinds { (kind : FrameKindValue) → held_by kind pages.new ≡ held_by kind pages.old }
@@ -48,6 +54,7 @@ fn widen(
     ensures wide { queues.old.room ≤ queues.new.room }
     ensures none { back.new.items ≡ back.old.items }
     ensures enough { OnOk result (leaves < log.new.spare) }
+    ensures place { OnOk result (length (option_to_list (begin_in entry.now)) ≤ numbers.new.spare) }
     ensures size { OnOk result (size_of pages.new ≡ limit) }
     ensures ready { OnOk result (limit - size_of pages.old ≤ pages.new.spare) }
     ensures places { OnOk result (limit ≤ length marks.new) }
@@ -55,7 +62,7 @@ fn widen(
     ensures room { OnOk result (length back.new.items + (limit - size_of pages.old) ≤ back.new.room) }
 {
     let more = limit - pages.size();
-    take_room(log, pages, back, leaves, more, 0)?;
+    take_room(entry, log, numbers, pages, back, leaves, more, 0)?;
     queues.reserve(limit)?;
     marks.grow(limit)?;
     pages.grow(limit)
@@ -82,6 +89,7 @@ pub fn open_growing(
         mut queues,
         asks,
         tally,
+        mut numbers,
         newest,
         leaves,
         mut log,
@@ -91,7 +99,9 @@ pub fn open_growing(
     let reserved = leaves_left(&entry.call, leaves);
     let first = pages.size();
     match widen(
+        &entry,
         &mut log,
+        &mut numbers,
         &mut pages,
         &mut marks,
         &mut queues,
@@ -107,6 +117,7 @@ pub fn open_growing(
             queues,
             asks,
             tally,
+            numbers,
             newest,
             leaves,
             log,
@@ -133,6 +144,7 @@ pub fn open_growing(
                 queues,
                 asks,
                 tally,
+                numbers,
                 newest,
                 leaves,
                 log,
@@ -163,9 +175,14 @@ impl Changing {
         requires gone { Vanishes self.old.birth self.old.entry self.old.journal self.old.done.mark }
         ensures { self.new ≡ next self.old }
     {
+        let old = bared(&self.pages, &self.marks, &self.numbers, self.mark);
         let displaced = self.pages.take(PageNo(self.mark));
         self.back.put_some(displaced);
-        let mark = Mark::none();
+        let mark = Mark {
+            dirtied: old.dirtied,
+            unzeroed: old.unzeroed,
+            ..Mark::none()
+        };
         self.marks.set(self.mark, mark);
         self.mark += 1;
     }
@@ -226,6 +243,7 @@ impl Changing {
             mut queues,
             asks,
             tally,
+            mut numbers,
             newest,
             leaves,
             mut log,
@@ -246,6 +264,7 @@ impl Changing {
         hand_over(given, &mut back);
         let newest = entry.epoch.max(newest);
         let leaves = leaves_left(&entry.call, leaves);
+        numbers.add(&entry);
         log.push(entry);
         let object = Object {
             birth,
@@ -255,6 +274,7 @@ impl Changing {
             queues,
             asks,
             tally,
+            numbers,
             newest,
             leaves,
             log,

@@ -166,7 +166,7 @@ pub fn decline(
     given: Frames,
 ) -> (Object, Step)
     requires own { AllAre (bank_of object.banks brings) given.items }
-    requires properly { IsTrue (proper object.journal by.who call) }
+    requires properly { IsTrue (proper object.birth object.journal by.who call) }
     requires due { reply object.birth object.journal by.who by.epoch call ≡ declined_reply why }
     requires keeps { is_reset call ≡ false }
     requires spent { (not (is_retry call) || keeps_ticket (declined_reply why)) ≡ true }

@@ -1,12 +1,14 @@
 -- What hints, pins and unpins make of each page of their range.
-use Rattle.std.proofs.Common.{◌≡◌, ℕ, ◌+◌, ◌<◌, ◌==◌, not, Bool, true, false, None, List, refl, ◌∙◌, arith, nat_le}
+use Rattle.std.proofs.Common.{◌≡◌, ℕ, ◌+◌, ◌<◌, ◌==◌, not, Bool, true, false, None, List, refl, sym, ◌∙◌, arith, nat_le}
 use Rattle.std.proofs.lemmas.Bool.Decides.{nat_tests}
 use Rattle.up_num.specs.Span.{Span}
 use Rattle.up_model.specs.Attempts.{accepts}
 use Rattle.up_model.specs.Deeds.{is_always, has_page}
 use Rattle.up_model.specs.Value.{there}
 use Rattle.up_model.specs.Pins.{pins}
-use Rattle.up_model.specs.Reply.{first_in, absent, is_unpinned, is_full_of_pins}
+use Rattle.up_model.specs.States.{plain}
+use Rattle.up_model.specs.Legal.{Legal}
+use Rattle.up_model.specs.Reply.{first_in, absent, is_unpinned, is_full_of_pins, reply}
 use Rattle.up_model.specs.Changes.{Hints, PinsOne, UnpinsOne, Goes}
 use Rattle.up_model.specs.Concerns.{concerns}
 use Rattle.up_num.specs.declared.pages.PageNo.{PageNo}
@@ -17,6 +19,7 @@ use Rattle.up_model.specs.declared.entry.Call.TheVariants.{Hint, Pin, Unpin, Evi
 use Rattle.up_model.specs.declared.entry.Entry.{Entry}
 use Rattle.up_model.specs.declared.entry.HintKind.{HintKind}
 use Rattle.up_model.proofs.Passed.{none_in}
+use Rattle.up_model.proofs.Reclaiming.{evicted_page}
 use Rattle.up_model.proofs.Touching.{hint_marks, pin_one, unpin_one, evict_goes}
 use Rattle.up_object.proofs.Looking.{present_is}
 use Rattle.up_object.proofs.Ranged.{covered_at}
@@ -52,6 +55,12 @@ pin_at birth e h range brought mark place c a here few first lt =
 -- an evict that lists these pages
 pub evict_listed : (birth : Birth) (e : Entry) (h : List Entry) (limit most : ℕ) (pages : List PageNo) (p : ℕ) → e.call ≡ Evict limit most → e.reply ≡ Pages pages → has_page pages p ≡ true → Goes birth e h p
 evict_listed birth e h limit most pages p c r listed = evict_goes birth e h limit most p c (rw (c, r) listed)
+
+-- they are no zero pages, where this reply is due
+pub evict_bare : (birth : Birth) (h : List Entry) (who epoch limit most : ℕ) (pages : List PageNo) (p : ℕ) → Legal birth h → reply birth h who epoch (Evict limit most) ≡ Pages pages → has_page pages p ≡ true →
+    plain birth h p ≡ false
+evict_bare birth h who epoch limit most pages p legal due listed =
+    (evicted_page birth (record { who = who; epoch = epoch; call = Evict limit most; reply = Pages pages }) h (legal, refl, sym due) p listed).not_plain
 
 pub evict_spares : (birth : Birth) (e : Entry) (h : List Entry) (limit most : ℕ) (pages : List PageNo) (p : ℕ) → e.call ≡ Evict limit most → e.reply ≡ Pages pages → has_page pages p ≡ false → concerns birth h e p ≡ false
 evict_spares birth e h limit most pages p c r unlisted = rw (c, r) unlisted

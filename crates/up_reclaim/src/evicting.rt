@@ -88,6 +88,7 @@ fn evict_pages(object: Object, evicting: Evicting, pages: PageSeq) -> (Object, S
         Err(memory) => return evicting.fail(object, memory),
     };
     let entry = evicting.by.entry(evicting.call(), Reply::Pages(noted));
+    let _ = object.size();
     match evict_list(object, evicting.alloc, entry, &pages) {
         Ok((object, back)) => {
             let reply = Reply::Pages(pages);

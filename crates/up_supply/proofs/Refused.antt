@@ -66,7 +66,7 @@ brings_frames n Nothing is some = absurd cc
 brings_frames n (Frames m) is some = nat_eq_true m n is
 brings_frames n Scanned is some = absurd cc
 
-pub supply_full : (birth : Birth) (h : List Entry) (who : ℕ) (supplying : Supplying) (bytes : List ℕ) (frames : List Frame) → proper h who (supply_call supplying bytes) ≡ true → refuses_supply birth h supplying ≡ None →
+pub supply_full : (birth : Birth) (h : List Entry) (who : ℕ) (supplying : Supplying) (bytes : List ℕ) (frames : List Frame) → proper birth h who (supply_call supplying bytes) ≡ true → refuses_supply birth h supplying ≡ None →
     length frames ≡ frames_in supplying.brought → IsFull supplying bytes frames
 supply_full birth h who supplying bytes frames is passed given = record {
   each = given ∙ brings_frames supplying.range.count supplying.brought (and_left _ _ (and_right (length bytes == 4096 * supplying.range.count) _ is)) (supply_unscanned birth h supplying passed);

@@ -38,7 +38,7 @@ pub fn supply(
     bytes: Bytes,
     frames: FramesIn,
 ) -> Step
-    requires proper { IsTrue (replies.proper object.old.journal who (SupplyCall range bytes (brought_of frames))) }
+    requires proper { IsTrue (replies.proper object.old.birth object.old.journal who (SupplyCall range bytes (brought_of frames))) }
     requires own { AllAre (bank_of object.old.banks OrdinaryKind) (frames_of frames) }
     ensures reply { IfOk result (λ step. step.reply ≡ replies.reply object.old.birth object.old.journal who epoch (SupplyCall range bytes (brought_of frames))) }
     ensures object { OnOk result (object.new ≡ after object.old who epoch (SupplyCall range bytes (brought_of frames))) }
@@ -100,7 +100,7 @@ fn is_scan(brought: Brought) -> bool
 }
 
 fn supply_pages(object: Object, given: (Supplying, Bytes, Frames)) -> (Object, Step)
-    requires proper { IsTrue (replies.proper object.journal given.0.by.who (supply_call given.0 given.1)) }
+    requires proper { IsTrue (replies.proper object.birth object.journal given.0.by.who (supply_call given.0 given.1)) }
     requires own { AllAre (bank_of object.banks OrdinaryKind) given.2.items }
     requires frames { length given.2.items ≡ replies.frames_in given.0.brought }
     ensures { Steps object result.0 result.1 given.0.by.who given.0.by.epoch (supply_call given.0 given.1) given.2.items }
@@ -134,7 +134,7 @@ fn refuse_supply(
     why: Refusal,
     frames: Frames,
 ) -> (Object, Step)
-    requires proper { IsTrue (replies.proper object.journal supplying.by.who (supply_call supplying bytes)) }
+    requires proper { IsTrue (replies.proper object.birth object.journal supplying.by.who (supply_call supplying bytes)) }
     requires own { AllAre (bank_of object.banks OrdinaryKind) frames.items }
     requires why { refuses_supply object.birth object.journal supplying ≡ Some why }
     ensures { Steps object result.0 result.1 supplying.by.who supplying.by.epoch (supply_call supplying bytes) frames.items }
@@ -164,7 +164,7 @@ impl Supplying {
 
 /// The supply is accepted: absent pages get their bytes, and readers are freed.
 fn fill_range(object: Object, supplying: Supplying, bytes: Bytes, frames: Frames) -> (Object, Step)
-    requires proper { IsTrue (replies.proper object.journal supplying.by.who (supply_call supplying bytes)) }
+    requires proper { IsTrue (replies.proper object.birth object.journal supplying.by.who (supply_call supplying bytes)) }
     requires own { AllAre (bank_of object.banks OrdinaryKind) frames.items }
     requires frames { length frames.items ≡ replies.frames_in supplying.brought }
     requires accepted { refuses_supply object.birth object.journal supplying ≡ None }
@@ -200,7 +200,7 @@ fn fill_and_wake(
     frames: Frames,
     taken: Taken,
 ) -> (Object, Step)
-    requires proper { IsTrue (replies.proper object.journal supplying.by.who (supply_call supplying bytes)) }
+    requires proper { IsTrue (replies.proper object.birth object.journal supplying.by.who (supply_call supplying bytes)) }
     requires own { AllAre (bank_of object.banks OrdinaryKind) frames.items }
     requires full { IsFull supplying bytes frames.items }
     requires fits { supplying.range.first + supplying.range.count ≤ size object.birth object.journal }

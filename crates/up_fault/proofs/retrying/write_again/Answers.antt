@@ -1,13 +1,18 @@
-use Rattle.std.proofs.Common.{◌%◌, refl, [], sym, arith}
+use Rattle.std.proofs.Common.{◌≡◌, ◌+◌, ◌∷◌, ◌%◌, ◌∙◌, List, refl, [], ap, sym, subst, arith}
 use Rattle.up_model.specs.Attempts.{page_of}
 use Rattle.up_model.specs.declared.entry.Reply.TheVariants.{Done}
+use Rattle.up_model.specs.declared.entry.Birth.{Birth}
 use Rattle.up_model.specs.declared.entry.Entry.{Entry}
 use Rattle.up_fault.specs.Calls.{retry_call}
 use Rattle.up_model.proofs.Touching.{write_writes}
 use Rattle.up_model.proofs.Resolved.{write_modifies}
 use Rattle.up_object.specs.Asks.{access_of}
+use Rattle.up_object.specs.Parts.{BankPair}
+use Rattle.up_object.specs.Change.{Change, of_kind, AllOwn}
+use Rattle.up_object.specs.Whole.{held}
+use Rattle.up_pages.specs.Frames.{count_kind}
 use Rattle.up_fault.proofs.Again.{held_spends, again_attempts, again_page, again_reply, again_framed, write_answers, waiter_brings, brings_within, brings_place}
-use Rattle.up_fault.proofs.Endings.{touched_pages, place_small}
+use Rattle.up_fault.proofs.Endings.{touched_pages, place_small, closed_steps}
 use Rattle.up_fault.proofs.retrying.write_again.Goals as goal
 
 pub page_in-page-requires : goal.page_in-page-requires
@@ -66,3 +71,31 @@ close-object-requires-clause-due c = rw (c.set_changed.ensures, c.write.ensures,
           Done c.requires.freed c.requires.some c.requires.same
           (write_answers c.args.object.birth c.args.object.journal c.args.attempt c.args.retrying.brought c.requires.writes c.requires.done));
     })
+
+pub returns-in-Ok : goal.returns-in-Ok
+returns-in-Ok c =
+    let back = c.close-object.result.1 in
+    let done : Entry = record { who = c.args.retrying.by.who; epoch = c.args.retrying.by.epoch; call = retry_call c.args.retrying; reply = Done } in
+    let birth : c.set_changed.new.self.birth ≡ c.args.object.birth =
+    ap (λ (v : Change). v.birth) c.set_changed.ensures ∙ ap (λ (v : Change). v.birth) c.write.ensures
+    ∙ ap (λ (v : Change). v.birth) c.spend-piece.ensures.new ∙ ap (λ (v : Change). v.birth) c.in-Ok.ensures.ok in
+    let journal : c.set_changed.new.self.journal ≡ c.args.object.journal =
+    ap (λ (v : Change). v.journal) c.set_changed.ensures ∙ ap (λ (v : Change). v.journal) c.write.ensures
+    ∙ ap (λ (v : Change). v.journal) c.spend-piece.ensures.new ∙ ap (λ (v : Change). v.journal) c.in-Ok.ensures.ok in
+    let banks : c.set_changed.new.self.banks ≡ c.args.object.banks =
+    ap (λ (v : Change). v.banks) c.set_changed.ensures ∙ ap (λ (v : Change). v.banks) c.write.ensures
+    ∙ ap (λ (v : Change). v.banks) c.spend-piece.ensures.new ∙ ap (λ (v : Change). v.banks) c.in-Ok.ensures.ok in
+    let entry : c.set_changed.new.self.entry ≡ done =
+    ap (λ (v : Change). v.entry) c.set_changed.ensures ∙ ap (λ (v : Change). v.entry) c.write.ensures
+    ∙ ap (λ (v : Change). v.entry) c.spend-piece.ensures.new ∙ ap (λ (v : Change). v.entry) c.in-Ok.ensures.ok ∙ rw c.entry-entry.ensures refl in
+    closed_steps c.args.object c.close-object.result.0 back c.args.frames.items c.in-Ok.changing.frames
+    c.args.retrying.by.who c.args.retrying.by.epoch (retry_call c.args.retrying) Done
+    (c.close-object.ensures.object ∙ (λ i. record { birth = birth i; journal = entry i ∷ journal i; banks = banks i }))
+    (again_reply c.args.object.birth c.args.object.journal c.args.retrying.by.who c.args.retrying.by.epoch c.args.retrying.ticket c.args.attempt c.args.retrying.brought
+    Done c.requires.freed c.requires.some c.requires.same
+    (write_answers c.args.object.birth c.args.object.journal c.args.attempt c.args.retrying.brought c.requires.writes c.requires.done))
+    (λ kind. (λ i. count_kind kind back.items + held (sym birth i) (sym entry i ∷ sym journal i) kind) ∙ c.close-object.ensures.frames kind
+    ∙ ap (λ (v : Change). of_kind kind v.frames) c.set_changed.ensures ∙ ap (λ (v : Change). of_kind kind v.frames) c.write.ensures
+    ∙ ap (λ (v : Change). of_kind kind v.frames) c.spend-piece.ensures.new)
+    c.in-Ok.ensures.frames
+    (subst (λ (b : BankPair). AllOwn b back.items) banks c.close-object.ensures.own)

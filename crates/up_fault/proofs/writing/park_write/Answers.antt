@@ -6,7 +6,7 @@ use Rattle.up_fault.proofs.writing.park_write.Goals as goal
 
 pub waiter-requires : goal.waiter-requires
 waiter-requires c = subst (λ (xs : List ℕ). length xs ≤ 4096) (sym c.in-Ok-copy.ensures)
-    (short_write c.args.object.journal c.args.writing.by.who c.args.writing.off c.args.bytes c.args.writing.last c.args.writing.brought c.requires.proper)
+    (short_write c.args.object.birth c.args.object.journal c.args.writing.by.who c.args.writing.off c.args.bytes c.args.writing.last c.args.writing.brought c.requires.proper)
 
 pub park-object-requires-clause-wants : goal.park-object-requires-clause-wants
 park-object-requires-clause-wants c = rw (c.in-Ok-open_asking.ensures.ok, c.waiter.ensures, c.in-Ok-copy.ensures)

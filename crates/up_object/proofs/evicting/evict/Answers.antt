@@ -1,4 +1,5 @@
-use Rattle.std.proofs.Common.{◌≡◌, ◌+◌, List, ◌∷◌, cond, sym, subst, ap, ◌∙◌}
+use Rattle.std.proofs.Common.{◌≡◌, ◌+◌, List, ◌∷◌, ◌++◌, cond, sym, subst, ap, ◌∙◌}
+use Rattle.std.specs.Prelude.{option_to_list}
 use Rattle.up_num.specs.declared.pages.PageNo.{PageNo}
 use Rattle.up_bank.specs.Standing.{Held as Frame}
 use Rattle.up_pages.specs.Frames.{count_kind}
@@ -7,6 +8,8 @@ use Rattle.up_pages.specs.declared.page.Page.TheVariants.{Absent}
 use Rattle.up_model.specs.Deeds.{has_page}
 use Rattle.up_model.specs.Written.{Written}
 use Rattle.up_model.specs.declared.entry.Entry.{Entry}
+use Rattle.up_object.specs.declared.numbers.Begin.{Begin}
+use Rattle.up_object.specs.Numbers.{begin_in}
 use Rattle.up_object.specs.Parts.{HasOwn}
 use Rattle.up_object.specs.Change.{AllOwn}
 use Rattle.up_object.specs.Whole.{Whole, held}
@@ -16,24 +19,24 @@ use Rattle.up_object.proofs.evicting.evict.Goals as goal
 pub invariant_of-object-2 : goal.invariant_of-object-2
 invariant_of-object-2 c =
     let takes = subst (λ (v : Whole). Takes v.birth c.args.entry v.journal c.args.list.now) (sym c.object.view_is)
-    (record { goes = c.requires.goes; rests = c.requires.pages; asks = c.requires.asks; spent = c.requires.spent; tally = c.requires.tally; size = c.requires.size; due = c.requires.due }) in
+    (record { goes = c.requires.goes; bare = c.requires.bare; rests = c.requires.pages; asks = c.requires.asks; spent = c.requires.spent; tally = c.requires.tally; size = c.requires.size; due = c.requires.due }) in
     let taken = subst (λ (xs : List PageNo). Taken c.object.inside.pages c.take_pages.new.pages c.object.inside.queues c.take_pages.new.queues xs) c.as_slice.ensures (record {
       puts = λ p. c.take_pages.ensures.pages p ∙ ap (λ (page : Page). cond (has_page c.as_slice.result.now p) Absent page) (c.make_room.ensures.pages p);
       sized = c.take_pages.ensures.size ∙ c.make_room.ensures.size;
       finds = c.take_pages.ensures.queue;
       room = c.take_pages.ensures.places;
     }) in
-    evicted c.object.inside.banks c.object.inside.pages c.take_pages.new.pages c.object.inside.marks c.object.inside.queues c.take_pages.new.queues c.object.inside.asks c.object.inside.tally
+    evicted c.object.inside.banks c.object.inside.pages c.take_pages.new.pages c.object.inside.marks c.object.inside.queues c.take_pages.new.queues c.object.inside.asks c.object.inside.tally c.object.inside.numbers c.add.new.self
     c.object.inside.newest c.max-newest.result c.object.inside.leaves c.leaves_left-left.result c.object.inside.log.spare c.push.new.self.spare c.make_room.new.log.spare
     c.object.inside.birth c.args.entry c.object.inside.log.entries c.push.new.self.entries c.args.list.now c.object.invariant takes taken
-    c.max-newest.ensures c.leaves_left-left.ensures c.in_default.ensures.enough
+    (c.add.ensures ∙ ap (λ (xs : List Begin). xs ++ option_to_list (begin_in c.args.entry)) c.make_room.ensures.begins) c.max-newest.ensures c.leaves_left-left.ensures c.in_default.ensures.enough
     (ap (λ (w : Written). w.spare) c.push.ensures) (ap (λ (w : Written). w.entries) c.push.ensures ∙ ap (λ (h : List Entry). c.args.entry ∷ h) c.make_room.ensures.entries)
 
 pub returns-clause-frames : goal.returns-clause-frames
 returns-clause-frames c = λ kind.
     let s = c.object.invariant in
     let takes = subst (λ (v : Whole). Takes v.birth c.args.entry v.journal c.args.list.now) (sym c.object.view_is)
-    (record { goes = c.requires.goes; rests = c.requires.pages; asks = c.requires.asks; spent = c.requires.spent; tally = c.requires.tally; size = c.requires.size; due = c.requires.due }) in
+    (record { goes = c.requires.goes; bare = c.requires.bare; rests = c.requires.pages; asks = c.requires.asks; spent = c.requires.spent; tally = c.requires.tally; size = c.requires.size; due = c.requires.due }) in
     let taken = subst (λ (xs : List PageNo). Taken c.object.inside.pages c.take_pages.new.pages c.object.inside.queues c.take_pages.new.queues xs) c.as_slice.ensures (record {
       puts = λ p. c.take_pages.ensures.pages p ∙ ap (λ (page : Page). cond (has_page c.as_slice.result.now p) Absent page) (c.make_room.ensures.pages p);
       sized = c.take_pages.ensures.size ∙ c.make_room.ensures.size;

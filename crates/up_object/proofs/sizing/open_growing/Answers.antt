@@ -11,15 +11,15 @@ widen-requires-clause-more c = let s = c.object.invariant in
 
 pub invariant_of-result : goal.invariant_of-result
 invariant_of-result c = let s = c.object.invariant in
-    grows _ c.object.inside.pages c.widen.new.pages c.object.inside.marks c.widen.new.marks c.object.inside.queues c.widen.new.queues _ _ _ _ _ _ _ c.object.inside.log.entries _ _ _ _ _ _ _ s c.widen.ensures.entries c.size-first.ensures
+    grows _ c.object.inside.pages c.widen.new.pages c.object.inside.marks c.widen.new.marks c.object.inside.queues c.widen.new.queues _ _ c.object.inside.numbers c.widen.new.numbers _ _ _ _ _ c.object.inside.log.entries _ _ _ _ _ _ _ s c.widen.ensures.entries c.widen.ensures.begins c.size-first.ensures
     (subst (λ (v : Whole). size v.birth (c.args.entry ∷ v.journal) ≡ c.args.limit) (sym c.object.view_is) c.requires.size)
     (subst (λ (v : Whole). size v.birth v.journal ≤ c.args.limit) (sym c.object.view_is) c.requires.more)
     c.widen.ensures.pages c.in-Ok.ensures.size c.in-Ok.ensures.ready c.widen.ensures.marks c.in-Ok.ensures.places c.widen.ensures.queued c.in-Ok.ensures.seats c.new-given.ensures.empty (c.widen.ensures.none ∙ c.new-back.ensures.empty) c.in-Ok.ensures.room
-    (subst (λ (n : ℕ). n < c.widen.new.log.spare) c.leaves_left-reserved.ensures c.in-Ok.ensures.enough)
+    (subst (λ (n : ℕ). n < c.widen.new.log.spare) c.leaves_left-reserved.ensures c.in-Ok.ensures.enough) c.in-Ok.ensures.place
 
 pub invariant_of-object : goal.invariant_of-object
 invariant_of-object c = let s = c.object.invariant in
-    still_stands _ c.object.inside.pages c.widen.new.pages c.object.inside.marks c.widen.new.marks c.object.inside.queues c.widen.new.queues _ _ _ _ _ _ _ c.object.inside.log.entries _ s c.widen.ensures.entries c.widen.ensures.pages c.in-Err.ensures.still
+    still_stands _ c.object.inside.pages c.widen.new.pages c.object.inside.marks c.widen.new.marks c.object.inside.queues c.widen.new.queues _ _ c.object.inside.numbers c.widen.new.numbers _ _ _ _ _ c.object.inside.log.entries _ s c.widen.ensures.entries c.widen.ensures.begins c.widen.ensures.pages c.in-Err.ensures.still
     c.widen.ensures.marks c.widen.ensures.marked c.widen.ensures.queued c.widen.ensures.wide c.widen.ensures.spare
 
 pub returns-in-Ok-clause-ok : goal.returns-in-Ok-clause-ok

@@ -20,14 +20,14 @@ invariant_of-object c =
     let s = c.self.invariant in
     let keeps = subst (λ (v : Change). (p : ℕ) → is_done v.done p ≡ false → concerns v.birth v.journal v.entry p ≡ false) (sym c.self.view_is) c.requires.pages in
     let fixed = subst (λ (v : Change). v.done.size ≡ false → keeps_size v.entry ≡ true) (sym c.self.view_is) c.requires.size in
-    closed _ _ c.self.inside.pages _ _ _ _ _ _ _ _ _ _ c.args.from c.args.to _ _ _ _ s (λ p. refl)
+    closed _ _ c.self.inside.pages _ _ _ _ _ _ _ _ _ _ c.args.from c.args.to _ c.add.new.self _ _ _ s (λ p. refl)
     (size_end _ c.self.inside.birth c.self.inside.entry c.self.inside.log.entries c.self.inside.size_done s.sized fixed) (omega arith) keeps
     (subst (λ (v : Change). (p : ℕ) → (nat_le c.args.from p && nat_lt p c.args.to) ≡ false → Rests v.birth v.entry v.journal v.done p) (sym c.self.view_is) c.requires.places)
     (subst (λ (v : Change). v.done.asks ≡ false → keeps_asks v.entry ≡ true) (sym c.self.view_is) c.requires.asks)
     (subst (λ (v : Change). v.done.spent ≡ false → keeps_spent v.entry ≡ true) (sym c.self.view_is) c.requires.spent)
     (subst (λ (v : Change). v.done.tally ≡ false → (keeps_roles v.entry && keeps_modified v.entry) ≡ true) (sym c.self.view_is) c.requires.tally)
     (subst (λ (v : Change). IsDue v.birth v.entry v.journal) (sym c.self.view_is) c.requires.due)
-    c.settle.ensures.pages c.settle.ensures.room c.max-newest.ensures c.leaves_left-leaves.ensures
+    c.settle.ensures.pages c.settle.ensures.room c.add.ensures c.max-newest.ensures c.leaves_left-leaves.ensures
     (ap (λ (w : Written). w.spare) c.push.ensures) (ap (λ (w : Written). w.entries) c.push.ensures)
 
 pub returns-clause-frames : goal.returns-clause-frames

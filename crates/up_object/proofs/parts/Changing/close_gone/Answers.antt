@@ -39,14 +39,14 @@ invariant_of-object c =
     let order = s.part.order in
     let ends = s.part.ends in
     let fits = s.part.fits in
-    closed _ c.self.inside.pages c.shorten.new.pages _ _ _ _ _ _ _ _ _ _ c.self.inside.first c.self.inside.limit _ _ _ _ s c.shorten.ensures.pages
+    closed _ c.self.inside.pages c.shorten.new.pages _ _ _ _ _ _ _ _ _ _ c.self.inside.first c.self.inside.limit _ c.add.new.self _ _ _ s c.shorten.ensures.pages
     (c.shorten.ensures.size ∙ sym fixed) (omega arith) (keeps_outside _ _ _ _ _ _ _ s.part ended keeps)
     (rests_outside _ _ _ _ ended same)
     (subst (λ (v : Change). v.done.asks ≡ false → keeps_asks v.entry ≡ true) (sym c.self.view_is) c.requires.asks)
     (subst (λ (v : Change). v.done.spent ≡ false → keeps_spent v.entry ≡ true) (sym c.self.view_is) c.requires.spent)
     (subst (λ (v : Change). v.done.tally ≡ false → (keeps_roles v.entry && keeps_modified v.entry) ≡ true) (sym c.self.view_is) c.requires.tally)
     (subst (λ (v : Change). IsDue v.birth v.entry v.journal) (sym c.self.view_is) c.requires.due)
-    c.settle.ensures.pages c.settle.ensures.room c.max-newest.ensures c.leaves_left-leaves.ensures
+    c.settle.ensures.pages c.settle.ensures.room c.add.ensures c.max-newest.ensures c.leaves_left-leaves.ensures
     (ap (λ (w : Written). w.spare) c.push.ensures) (ap (λ (w : Written). w.entries) c.push.ensures)
 
 pub returns-clause-frames : goal.returns-clause-frames
