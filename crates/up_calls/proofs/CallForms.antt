@@ -1,5 +1,5 @@
 -- Calls: each is read from its words, and from no others, and its words are words.
-use Rattle.std.proofs.Common.{◌≡◌, ℕ, ◌+◌, ◌<◌, ◌≤◌, Bool, true, false, ◌&&◌, ⊎_elim, List, [], ◌∷◌, ◌++◌, length, drop, take, Some, Ok, refl, sym, ap, subst, ◌∙◌, arith}
+use Rattle.std.proofs.Common.{◌≡◌, ℕ, ◌+◌, ◌<◌, ◌≤◌, Bool, true, false, ◌&&◌, ⊎_elim, not, List, [], ◌∷◌, ◌++◌, length, drop, take, Some, None, Ok, refl, sym, ap, subst, ◌∙◌, arith}
 use Rattle.std.specs.Prelude.{codes}
 use Rattle.std.specs.List.{list_all}
 use Rattle.std.specs.Str.{bytes_eq}
@@ -9,7 +9,7 @@ use Rattle.up_model.specs.declared.entry.Call.TheVariants as calls
 use Rattle.up_model.specs.declared.entry.HintKind.TheVariants.{Always, Cold}
 use Rattle.up_model.specs.declared.entry.Role.TheVariants.{User, Pager}
 use Rattle.up_model.specs.declared.entry.Told.TheVariants as tells
-use Rattle.up_words.specs.Words.{word_at, is_word}
+use Rattle.up_words.specs.Words.{word_at, word_is, is_word}
 use Rattle.up_words.specs.Numbers.{number_between}
 use Rattle.up_words.specs.Runs.{too_many, runs_in}
 use Rattle.up_words.specs.declared.fault.Why.TheVariants as why
@@ -21,10 +21,10 @@ use Rattle.up_calls.specs.Text.{role_text, call_words}
 use Rattle.up_fields.specs.Fields.{flag_in, page_in, range_in, total_of}
 use Rattle.up_calls.specs.Frames.{frames_in, frames_lie}
 use Rattle.up_words.specs.Refusals.{code_in}
-use Rattle.up_calls.specs.Kinds.{call_verb, call_size}
+use Rattle.up_calls.specs.Kinds.{call_verb, call_size, call_kinds, end_kind}
 use Rattle.up_calls.specs.Calls.{last_fits, call_fits, first_call, call_kind, plain_call, role_of, call_in, call_of}
 use Rattle.up_fields.specs.Allowed.{lies, page_lies, range_lies, are_bytes}
-use Rattle.up_calls.specs.Allowed.{call_allowed, call_bytes}
+use Rattle.up_calls.specs.Allowed.{call_allowed, call_bytes, is_formed}
 use Rattle.up_calls.specs.declared.calls.SpelledCall.{SpelledCall}
 use Rattle.up_calls.specs.declared.kinds.CallKind.{CallKind}
 use Rattle.up_calls.specs.declared.kinds.CallKind.TheVariants as kinds
@@ -41,7 +41,8 @@ kind_of (calls.Supply range bytes brought) = kinds.Supply
 kind_of (calls.Fail range code) = kinds.Fail
 kind_of (calls.Dirty range brought) = kinds.Dirty
 kind_of (calls.Begin range zero) = kinds.Begin
-kind_of (calls.End range) = kinds.End
+kind_of (calls.End range None) = kinds.End
+kind_of (calls.End range (Some n)) = kinds.EndOf
 kind_of (calls.Query range room) = kinds.Query
 kind_of (calls.Stats reset) = kinds.Stats
 kind_of (calls.Hint range Always) = kinds.Always
@@ -64,36 +65,39 @@ kind_of (calls.Tell (tells.Flushed ok)) = kinds.Flushed
 kind_of (calls.Tell (tells.Busy pages claim)) = kinds.Busy
 
 -- a call's words begin with a call of its kind
-pub call_found : (call : Call) (more : List (List ℕ)) → call_kind (call_words call ++ more) ≡ Some (kind_of call)
+pub call_found : (numbered : Bool) (call : Call) (more : List (List ℕ)) → is_formed numbered call ≡ true → call_kind numbered (call_words call ++ more) ≡ Some (kind_of call)
 unfolding first_call
-call_found (calls.Read piece last brought) more = rw (frames_shown brought) refl
-call_found (calls.Write off bytes last brought) more = rw (frames_shown brought) refl
-call_found (calls.Retry ticket brought) more = rw (frames_shown brought) refl
-call_found (calls.Supply range bytes brought) more = rw (frames_shown brought) refl
-call_found (calls.Fail range code) more = rw (code_again code) refl
-call_found (calls.Dirty range brought) more = rw (frames_shown brought) refl
-call_found (calls.Begin range zero) more = rw (flag_again (codes "zero") (codes "any") zero refl refl refl) refl
-call_found (calls.End range) more = refl
-call_found (calls.Query range room) more = refl
-call_found (calls.Stats reset) more = rw (flag_again (codes "reset") (codes "keep") reset refl refl refl) refl
-call_found (calls.Hint range Always) more = refl
-call_found (calls.Hint range Cold) more = refl
-call_found (calls.Pin range brought) more = rw (frames_shown brought) refl
-call_found (calls.Unpin range) more = refl
-call_found (calls.Evict limit max) more = refl
-call_found (calls.Borrow page brought) more = rw (frames_shown brought) refl
-call_found (calls.Vacate brought) more = rw (frames_shown brought) refl
-call_found (calls.Resize pages) more = refl
-call_found (calls.Zero range) more = refl
-call_found calls.Detach more = refl
-call_found calls.Packet more = refl
-call_found (calls.Leave User) more = refl
-call_found (calls.Leave Pager) more = refl
-call_found (calls.Tell (tells.Fetched page ok)) more = rw (flag_again (codes "ok") (codes "failed") ok refl refl refl) refl
-call_found (calls.Tell (tells.Copied range)) more = refl
-call_found (calls.Tell (tells.Stored page ok)) more = rw (flag_again (codes "ok") (codes "failed") ok refl refl refl) refl
-call_found (calls.Tell (tells.Flushed ok)) more = rw (flag_again (codes "ok") (codes "failed") ok refl refl refl) refl
-call_found (calls.Tell (tells.Busy pages claim)) more = refl
+call_found numbered (calls.Read piece last brought) more e = rw (frames_shown brought) refl
+call_found numbered (calls.Write off bytes last brought) more e = rw (frames_shown brought) refl
+call_found numbered (calls.Retry ticket brought) more e = rw (frames_shown brought) refl
+call_found numbered (calls.Supply range bytes brought) more e = rw (frames_shown brought) refl
+call_found numbered (calls.Fail range code) more e = rw (code_again code) refl
+call_found numbered (calls.Dirty range brought) more e = rw (frames_shown brought) refl
+call_found numbered (calls.Begin range zero) more e = rw (flag_again (codes "zero") (codes "any") zero refl refl refl) refl
+call_found true (calls.End range None) more e = absurd cc
+call_found false (calls.End range None) more e = refl
+call_found true (calls.End range (Some n)) more e = refl
+call_found false (calls.End range (Some n)) more e = absurd cc
+call_found numbered (calls.Query range room) more e = refl
+call_found numbered (calls.Stats reset) more e = rw (flag_again (codes "reset") (codes "keep") reset refl refl refl) refl
+call_found numbered (calls.Hint range Always) more e = refl
+call_found numbered (calls.Hint range Cold) more e = refl
+call_found numbered (calls.Pin range brought) more e = rw (frames_shown brought) refl
+call_found numbered (calls.Unpin range) more e = refl
+call_found numbered (calls.Evict limit max) more e = refl
+call_found numbered (calls.Borrow page brought) more e = rw (frames_shown brought) refl
+call_found numbered (calls.Vacate brought) more e = rw (frames_shown brought) refl
+call_found numbered (calls.Resize pages) more e = refl
+call_found numbered (calls.Zero range) more e = refl
+call_found numbered calls.Detach more e = refl
+call_found numbered calls.Packet more e = refl
+call_found numbered (calls.Leave User) more e = refl
+call_found numbered (calls.Leave Pager) more e = refl
+call_found numbered (calls.Tell (tells.Fetched page ok)) more e = rw (flag_again (codes "ok") (codes "failed") ok refl refl refl) refl
+call_found numbered (calls.Tell (tells.Copied range)) more e = refl
+call_found numbered (calls.Tell (tells.Stored page ok)) more e = rw (flag_again (codes "ok") (codes "failed") ok refl refl refl) refl
+call_found numbered (calls.Tell (tells.Flushed ok)) more e = rw (flag_again (codes "ok") (codes "failed") ok refl refl refl) refl
+call_found numbered (calls.Tell (tells.Busy pages claim)) more e = refl
 
 -- behind a call's words stand the others
 pub call_ended : (call : Call) (more : List (List ℕ)) → word_at (call_words call ++ more) (call_size (kind_of call)) ≡ word_at more 0
@@ -104,7 +108,8 @@ call_ended (calls.Supply range bytes brought) more = refl
 call_ended (calls.Fail range code) more = refl
 call_ended (calls.Dirty range brought) more = refl
 call_ended (calls.Begin range zero) more = refl
-call_ended (calls.End range) more = refl
+call_ended (calls.End range None) more = refl
+call_ended (calls.End range (Some n)) more = refl
 call_ended (calls.Query range room) more = refl
 call_ended (calls.Stats reset) more = refl
 call_ended (calls.Hint range Always) more = refl
@@ -135,7 +140,8 @@ call_behind (calls.Supply range bytes brought) more position who epoch arrow = r
 call_behind (calls.Fail range code) more position who epoch arrow = refl
 call_behind (calls.Dirty range brought) more position who epoch arrow = refl
 call_behind (calls.Begin range zero) more position who epoch arrow = refl
-call_behind (calls.End range) more position who epoch arrow = refl
+call_behind (calls.End range None) more position who epoch arrow = refl
+call_behind (calls.End range (Some n)) more position who epoch arrow = refl
 call_behind (calls.Query range room) more position who epoch arrow = refl
 call_behind (calls.Stats reset) more position who epoch arrow = refl
 call_behind (calls.Hint range Always) more position who epoch arrow = refl
@@ -205,7 +211,12 @@ call_again (calls.Dirty range brought) more e few =
     let p = and_parts (range_lies range) (frames_lie brought) e in
     plain (calls.Dirty range brought) more refl (rw (range_again range p.0, frames_again brought p.1) refl)
 call_again (calls.Begin range zero) more e few = plain (calls.Begin range zero) more refl (rw (range_again range e, flag_again (codes "zero") (codes "any") zero refl refl refl) refl)
-call_again (calls.End range) more e few = plain (calls.End range) more refl (rw (range_again range e) refl)
+call_again (calls.End range None) more e few =
+    let p = and_parts (range_lies range) true e in
+    plain (calls.End range None) more refl (rw (range_again range p.0) refl)
+call_again (calls.End range (Some n)) more e few =
+    let p = and_parts (range_lies range) (lies 0 all_tickets n) e in
+    plain (calls.End range (Some n)) more refl (rw (range_again range p.0, number_again 0 all_tickets n (omega arith) p.1) refl)
 call_again (calls.Query range room) more e few =
     let p = and_parts (range_lies range) (lies 0 all_counts room) e in
     plain (calls.Query range room) more refl (rw (range_again range p.0, number_again 0 all_counts room (omega arith) p.1) refl)
@@ -261,7 +272,12 @@ call_good (calls.Dirty range brought) e =
     let p = and_parts (range_lies range) (frames_lie brought) e in
     rw (first_word range p.0, count_word range p.0, frames_word brought p.1) refl
 call_good (calls.Begin range zero) e = rw (first_word range e, count_word range e, flag_word (codes "zero") (codes "any") zero refl refl) refl
-call_good (calls.End range) e = rw (first_word range e, count_word range e) refl
+call_good (calls.End range None) e =
+    let p = and_parts (range_lies range) true e in
+    rw (first_word range p.0, count_word range p.0) refl
+call_good (calls.End range (Some n)) e =
+    let p = and_parts (range_lies range) (lies 0 all_tickets n) e in
+    rw (first_word range p.0, count_word range p.0, lies_word 0 all_tickets n (omega arith) p.1) refl
 call_good (calls.Query range room) e =
     let p = and_parts (range_lies range) (lies 0 all_counts room) e in
     rw (first_word range p.0, count_word range p.0, lies_word 0 all_counts room (omega arith) p.1) refl
@@ -293,11 +309,79 @@ call_good (calls.Tell (tells.Busy pages claim)) e =
     let p = and_parts (lies 0 all_sizes pages) (range_lies claim) e in
     rw (lies_word 0 all_sizes pages (omega arith) p.0, first_word claim p.1, count_word claim p.1) refl
 
--- a kind that was found fits
-pub found_fits : (all : List CallKind) (words : List (List ℕ)) (kind : CallKind) → first_call all words ≡ Some kind → call_fits kind words ≡ true
+-- a kind that was found first fits
+first_fits : (all : List CallKind) (words : List (List ℕ)) (kind : CallKind) → first_call all words ≡ Some kind → call_fits kind words ≡ true
 unfolding first_call
-found_fits [] words kind e = absurd cc
-found_fits (this ∷ more) words kind e = ⊎_elim (λ p. subst (λ k. call_fits k words ≡ true) (some_is this kind p.1) p.0) (λ p. found_fits more words kind p.1) (either (call_fits this words) (Some this) (first_call more words) (Some kind) e)
+first_fits [] words kind e = absurd cc
+first_fits (this ∷ more) words kind e = ⊎_elim (λ p. subst (λ k. call_fits k words ≡ true) (some_is this kind p.1) p.0) (λ p. first_fits more words kind p.1) (either (call_fits this words) (Some this) (first_call more words) (Some kind) e)
+
+-- the kinds that are looked for first are none of an end
+abbrev is_no_end : CallKind → Bool
+is_no_end kinds.End = false
+is_no_end kinds.EndOf = false
+is_no_end _ = true
+
+first_among : (all : List CallKind) (words : List (List ℕ)) (kind : CallKind) → list_all is_no_end all ≡ true → first_call all words ≡ Some kind → is_no_end kind ≡ true
+unfolding first_call
+first_among [] words kind all e = absurd cc
+first_among (this ∷ more) words kind all e =
+    let p = and_parts (is_no_end this) (list_all is_no_end more) all in
+    ⊎_elim (λ q. subst (λ k. is_no_end k ≡ true) (some_is this kind q.1) p.0) (λ q. first_among more words kind p.1 q.1) (either (call_fits this words) (Some this) (first_call more words) (Some kind) e)
+
+end_fits : (numbered : Bool) (words : List (List ℕ)) → word_is words 0 (codes "end") ≡ true → call_fits (end_kind numbered) words ≡ true
+end_fits true words e = rw e refl
+end_fits false words e = rw e refl
+
+-- a kind that was found fits
+pub found_fits : (numbered : Bool) (words : List (List ℕ)) (kind : CallKind) → call_kind numbered words ≡ Some kind → call_fits kind words ≡ true
+found_fits numbered words kind e =
+    ⊎_elim (λ p. subst (λ k. call_fits k words ≡ true) (some_is (end_kind numbered) kind p.1) (end_fits numbered words p.0)) (λ p. first_fits call_kinds words kind p.1)
+    (either (word_is words 0 (codes "end")) (Some (end_kind numbered)) (first_call call_kinds words) (Some kind) e)
+
+-- a kind that may be found in a ranged or a numbered journal
+abbrev pub may_be : Bool → CallKind → Bool
+may_be numbered kinds.End = not numbered
+may_be numbered kinds.EndOf = numbered
+may_be numbered _ = true
+
+end_may_be : (numbered : Bool) → may_be numbered (end_kind numbered) ≡ true
+end_may_be true = refl
+end_may_be false = refl
+
+pub found_may_be : (numbered : Bool) (words : List (List ℕ)) (kind : CallKind) → call_kind numbered words ≡ Some kind → may_be numbered kind ≡ true
+found_may_be numbered words kind e =
+    ⊎_elim (λ p. subst (λ k. may_be numbered k ≡ true) (some_is (end_kind numbered) kind p.1) (end_may_be numbered)) (λ p. any kind (first_among call_kinds words kind refl p.1))
+    (either (word_is words 0 (codes "end")) (Some (end_kind numbered)) (first_call call_kinds words) (Some kind) e)
+  where
+    any : (kind : CallKind) → is_no_end kind ≡ true → may_be numbered kind ≡ true
+    any kinds.Read e = refl
+    any kinds.Write e = refl
+    any kinds.Retry e = refl
+    any kinds.Supply e = refl
+    any kinds.Fail e = refl
+    any kinds.Dirty e = refl
+    any kinds.Begin e = refl
+    any kinds.End e = absurd cc
+    any kinds.EndOf e = absurd cc
+    any kinds.Query e = refl
+    any kinds.Stats e = refl
+    any kinds.Always e = refl
+    any kinds.Cold e = refl
+    any kinds.Pin e = refl
+    any kinds.Unpin e = refl
+    any kinds.Evict e = refl
+    any kinds.Borrow e = refl
+    any kinds.Vacate e = refl
+    any kinds.Resize e = refl
+    any kinds.Zero e = refl
+    any kinds.Detach e = refl
+    any kinds.Packet e = refl
+    any kinds.Leave e = refl
+    any kinds.Fetched e = refl
+    any kinds.Copied e = refl
+    any kinds.Stored e = refl
+    any kinds.Flushed e = refl
+    any kinds.Busy e = refl
 
 role_flag : (user : Bool) → flag_text (codes "user") (codes "pager") user ≡ role_text (role_of user)
 role_flag true = refl
@@ -357,9 +441,15 @@ call_takes kinds.Begin words spelled size fits e less =
     front_four words size ∙ four (same_word (word_at words 0) (call_verb kinds.Begin) (and_parts (bytes_eq (word_at words 0) (call_verb kinds.Begin)) (last_fits kinds.Begin (word_at words 3)) fits).0) (range_takes a.0 (word_at words 1) (word_at words 2) a.1).0 (range_takes a.0 (word_at words 1) (word_at words 2) a.1).1 (flag_takes (codes "zero") (codes "any") (word_at words 3) b.0 b.1) ∙ ap (λ (s : SpelledCall). call_words (call_of s)) same
 call_takes kinds.End words spelled size fits e less =
     let a = bind_ok (range_in (word_at words 1) (word_at words 2)) _ spelled e in
-    let made : SpelledCall = plain_call (calls.End a.0) in
+    let made : SpelledCall = plain_call (calls.End a.0 None) in
     let same : made ≡ spelled = ok_is made spelled a.2 in
     front_three words size ∙ three (same_word (word_at words 0) (call_verb kinds.End) (and_parts (bytes_eq (word_at words 0) (call_verb kinds.End)) (last_fits kinds.End (word_at words 2)) fits).0) (range_takes a.0 (word_at words 1) (word_at words 2) a.1).0 (range_takes a.0 (word_at words 1) (word_at words 2) a.1).1 ∙ ap (λ (s : SpelledCall). call_words (call_of s)) same
+call_takes kinds.EndOf words spelled size fits e less =
+    let a = bind_ok (range_in (word_at words 1) (word_at words 2)) _ spelled e in
+    let b = bind_ok (number_between 0 all_tickets (word_at words 3)) _ spelled a.2 in
+    let made : SpelledCall = plain_call (calls.End a.0 (Some b.0)) in
+    let same : made ≡ spelled = ok_is made spelled b.2 in
+    front_four words size ∙ four (same_word (word_at words 0) (call_verb kinds.EndOf) (and_parts (bytes_eq (word_at words 0) (call_verb kinds.EndOf)) (last_fits kinds.EndOf (word_at words 3)) fits).0) (range_takes a.0 (word_at words 1) (word_at words 2) a.1).0 (range_takes a.0 (word_at words 1) (word_at words 2) a.1).1 (number_takes 0 all_tickets b.0 (word_at words 3) (omega arith) b.1) ∙ ap (λ (s : SpelledCall). call_words (call_of s)) same
 call_takes kinds.Query words spelled size fits e less =
     let a = bind_ok (range_in (word_at words 1) (word_at words 2)) _ spelled e in
     let b = bind_ok (number_between 0 all_counts (word_at words 3)) _ spelled a.2 in

@@ -1,5 +1,5 @@
 -- Which calls a text can spell.
-use Rattle.std.specs.Prelude.{ℕ, ◌&&◌, Bool, true, length}
+use Rattle.std.specs.Prelude.{ℕ, ◌&&◌, Bool, true, not, Option, Some, None, length}
 use Rattle.up_model.specs.declared.entry.Told.{Told}
 use Rattle.up_model.specs.declared.entry.Told.TheVariants as tells
 use Rattle.up_model.specs.declared.entry.Call.{Call}
@@ -15,6 +15,11 @@ told_allowed (tells.Stored page ok) = page_lies page
 told_allowed (tells.Flushed ok) = true
 told_allowed (tells.Busy pages claim) = lies 0 all_sizes pages && range_lies claim
 
+-- the number that an end names, where it names one
+abbrev pub of_lies : Option ℕ → Bool
+of_lies None = true
+of_lies (Some n) = lies 0 all_tickets n
+
 -- the call has a text
 abbrev pub call_allowed : Call → Bool
 call_allowed (calls.Read piece last brought) = lies 0 all_offsets piece.off && (lies 0 all_counts piece.len && (lies 0 all_lasts last.0 && frames_lie brought))
@@ -24,7 +29,7 @@ call_allowed (calls.Supply range bytes brought) = range_lies range && (are_bytes
 call_allowed (calls.Fail range code) = range_lies range
 call_allowed (calls.Dirty range brought) = range_lies range && frames_lie brought
 call_allowed (calls.Begin range zero) = range_lies range
-call_allowed (calls.End range) = range_lies range
+call_allowed (calls.End range of) = range_lies range && of_lies of
 call_allowed (calls.Query range room) = range_lies range && lies 0 all_counts room
 call_allowed (calls.Stats reset) = true
 call_allowed (calls.Hint range kind) = range_lies range
@@ -39,6 +44,12 @@ call_allowed calls.Detach = true
 call_allowed calls.Packet = true
 call_allowed (calls.Leave role) = true
 call_allowed (calls.Tell told) = told_allowed told
+
+-- The call has the form that a ranged or a numbered journal has: an end names a number exactly in a numbered one.
+abbrev pub is_formed : Bool → Call → Bool
+is_formed numbered (calls.End range None) = not numbered
+is_formed numbered (calls.End range (Some n)) = numbered
+is_formed numbered _ = true
 
 -- how many bytes the byte lists of an entry have
 abbrev pub call_bytes : Call → ℕ

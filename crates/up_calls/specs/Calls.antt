@@ -16,7 +16,7 @@ use Rattle.up_words.specs.declared.runs.Runs.{Runs}
 use Rattle.up_fields.specs.Fields.{is_found, flag_in, page_in, range_in}
 use Rattle.up_calls.specs.Frames.{is_frames, frames_in}
 use Rattle.up_words.specs.Refusals.{code_in}
-use Rattle.up_calls.specs.Kinds.{call_verb, call_size, call_kinds}
+use Rattle.up_calls.specs.Kinds.{call_verb, call_size, call_kinds, end_kind}
 use Rattle.up_fields.specs.Limits.{all_tickets, all_counts, all_offsets, all_pages, all_lasts, all_sizes}
 use Rattle.up_calls.specs.declared.calls.SpelledCall.{SpelledCall}
 use Rattle.up_calls.specs.declared.kinds.CallKind.{CallKind}
@@ -50,9 +50,9 @@ unfoldable pub first_call : List CallKind → List (List ℕ) → Option CallKin
 first_call [] words = None
 first_call (kind ∷ more) words = cond (call_fits kind words) (Some kind) (first_call more words)
 
--- the kind of call that the words begin with
-abbrev pub call_kind : List (List ℕ) → Option CallKind
-call_kind words = first_call call_kinds words
+-- the kind of call that the words begin with, in a ranged or a numbered journal
+abbrev pub call_kind : Bool → List (List ℕ) → Option CallKind
+call_kind numbered words = cond (word_is words 0 (codes "end")) (Some (end_kind numbered)) (first_call call_kinds words)
 
 -- a call without byte list
 abbrev pub plain_call : Call → SpelledCall
@@ -99,7 +99,11 @@ call_in kinds.Begin words = do
   Ok (plain_call (calls.Begin range zero))
 call_in kinds.End words = do
   range ← range_in (word_at words 1) (word_at words 2)
-  Ok (plain_call (calls.End range))
+  Ok (plain_call (calls.End range None))
+call_in kinds.EndOf words = do
+  range ← range_in (word_at words 1) (word_at words 2)
+  of ← number_between 0 all_tickets (word_at words 3)
+  Ok (plain_call (calls.End range (Some of)))
 call_in kinds.Query words = do
   range ← range_in (word_at words 1) (word_at words 2)
   room ← number_between 0 all_counts (word_at words 3)

@@ -1,5 +1,5 @@
 -- The kinds of calls: the first word of each, and how many words it has.
-use Rattle.std.specs.Prelude.{ℕ, List, [], ◌∷◌, codes}
+use Rattle.std.specs.Prelude.{ℕ, Bool, cond, List, [], ◌∷◌, codes}
 use Rattle.up_calls.specs.declared.kinds.CallKind.{CallKind}
 use Rattle.up_calls.specs.declared.kinds.CallKind.TheVariants as call
 
@@ -13,6 +13,7 @@ call_verb call.Fail = codes "fail"
 call_verb call.Dirty = codes "dirty"
 call_verb call.Begin = codes "begin"
 call_verb call.End = codes "end"
+call_verb call.EndOf = codes "end"
 call_verb call.Query = codes "query"
 call_verb call.Stats = codes "stats"
 call_verb call.Always = codes "always"
@@ -43,6 +44,7 @@ call_size call.Fail = 4
 call_size call.Dirty = 4
 call_size call.Begin = 4
 call_size call.End = 3
+call_size call.EndOf = 4
 call_size call.Query = 4
 call_size call.Stats = 2
 call_size call.Always = 3
@@ -63,6 +65,10 @@ call_size call.Stored = 3
 call_size call.Flushed = 2
 call_size call.Busy = 4
 
--- all kinds of calls
+-- all kinds of calls but ends, whose form is the journal's
 abbrev pub call_kinds : List CallKind
-call_kinds = call.Read ∷ call.Write ∷ call.Retry ∷ call.Supply ∷ call.Fail ∷ call.Dirty ∷ call.Begin ∷ call.End ∷ call.Query ∷ call.Stats ∷ call.Always ∷ call.Cold ∷ call.Pin ∷ call.Unpin ∷ call.Evict ∷ call.Borrow ∷ call.Vacate ∷ call.Resize ∷ call.Zero ∷ call.Detach ∷ call.Packet ∷ call.Leave ∷ call.Fetched ∷ call.Copied ∷ call.Stored ∷ call.Flushed ∷ call.Busy ∷ []
+call_kinds = call.Read ∷ call.Write ∷ call.Retry ∷ call.Supply ∷ call.Fail ∷ call.Dirty ∷ call.Begin ∷ call.Query ∷ call.Stats ∷ call.Always ∷ call.Cold ∷ call.Pin ∷ call.Unpin ∷ call.Evict ∷ call.Borrow ∷ call.Vacate ∷ call.Resize ∷ call.Zero ∷ call.Detach ∷ call.Packet ∷ call.Leave ∷ call.Fetched ∷ call.Copied ∷ call.Stored ∷ call.Flushed ∷ call.Busy ∷ []
+
+-- the kind of an end: in a numbered journal it names the number of its begin
+abbrev pub end_kind : Bool → CallKind
+end_kind numbered = cond numbered call.EndOf call.End

@@ -1,5 +1,5 @@
 -- The words of calls.
-use Rattle.std.specs.Prelude.{ℕ, Bool, true, false, List, [], ◌∷◌, ◌++◌, decimal, codes}
+use Rattle.std.specs.Prelude.{ℕ, Bool, true, false, Option, Some, None, List, [], ◌∷◌, ◌++◌, decimal, codes}
 use Rattle.up_words.specs.Runs.{bytes_text}
 use Rattle.up_model.specs.declared.entry.Role.{Role}
 use Rattle.up_model.specs.declared.entry.Role.TheVariants.{User, Pager}
@@ -31,6 +31,11 @@ told_words (Stored page ok) = codes "stored" ∷ page_text page ∷ ok_text ok �
 told_words (Flushed ok) = codes "flushed" ∷ ok_text ok ∷ []
 told_words (Busy pages claim) = codes "busy" ∷ decimal pages ∷ range_words claim
 
+-- the number of the begin that an end is for, where it names one
+abbrev pub of_words : Option ℕ → List (List ℕ)
+of_words None = []
+of_words (Some n) = decimal n ∷ []
+
 -- the words of a call
 abbrev pub call_words : Call → List (List ℕ)
 call_words (call.Read piece last brought) = codes "read" ∷ decimal piece.off ∷ decimal piece.len ∷ page_text last ∷ frames_text brought ∷ []
@@ -40,7 +45,7 @@ call_words (call.Supply range bytes brought) = codes "supply" ∷ range_words ra
 call_words (call.Fail range code) = codes "fail" ∷ range_words range ++ code_text code ∷ []
 call_words (call.Dirty range brought) = codes "dirty" ∷ range_words range ++ frames_text brought ∷ []
 call_words (call.Begin range zero) = codes "begin" ∷ range_words range ++ flag_text (codes "zero") (codes "any") zero ∷ []
-call_words (call.End range) = codes "end" ∷ range_words range
+call_words (call.End range of) = codes "end" ∷ range_words range ++ of_words of
 call_words (call.Query range room) = codes "query" ∷ range_words range ++ decimal room ∷ []
 call_words (call.Stats reset) = codes "stats" ∷ flag_text (codes "reset") (codes "keep") reset ∷ []
 call_words (call.Hint range kind) = hint_text kind ∷ range_words range

@@ -1,5 +1,6 @@
 ghost use Rattle.std.specs.Prelude.{◌≡◌, IfOk};
 ghost use Rattle.up_words.specs.Steps.{Gives};
+ghost use Rattle.up_calls.specs.Kinds.{call_kinds, end_kind};
 ghost use Rattle.up_calls.specs.Calls.{call_fits, call_in, call_kind, call_of, first_call, last_fits, plain_call, role_of};
 ghost use Rattle.up_calls.specs.declared.kinds.CallKind.TheVariants as kinds;
 
@@ -58,11 +59,31 @@ fn find(kinds: &[CallKind], words: &Tail<'_, '_>) -> Option<CallKind>
     None
 }
 
-/// The kind of call that the words begin with.
-pub fn find_call(words: &Tail<'_, '_>) -> Option<CallKind>
-    ensures { result ≡ call_kind words.now }
+fn find_no_end(words: &Tail<'_, '_>) -> Option<CallKind>
+    ensures { result ≡ first_call call_kinds words.now }
 {
     find(CALLS.as_slice(), words)
+}
+
+fn end_form(numbered: bool) -> CallKind
+    ensures { result ≡ end_kind numbered }
+{
+    if numbered {
+        CallKind::EndOf
+    } else {
+        CallKind::End
+    }
+}
+
+/// The kind of call that the words begin with. In a numbered journal an end names the number of its begin.
+pub fn find_call(numbered: bool, words: &Tail<'_, '_>) -> Option<CallKind>
+    ensures { result ≡ call_kind numbered words.now }
+{
+    if words.reads(0, b"end") {
+        Some(end_form(numbered))
+    } else {
+        find_no_end(words)
+    }
 }
 
 fn plain(call: Call) -> SpelledCall
@@ -158,7 +179,18 @@ fn end(words: &Tail<'_, '_>) -> Result<SpelledCall, Stop>
     ensures { Gives (λ spelled. spelled) result (call_in kinds.End words.now) }
 {
     let range = read_range(words.at(1), words.at(2))?;
-    Ok(plain(Call::End { range }))
+    Ok(plain(Call::End { range, of: None }))
+}
+
+fn end_of(words: &Tail<'_, '_>) -> Result<SpelledCall, Stop>
+    ensures { Gives (λ spelled. spelled) result (call_in kinds.EndOf words.now) }
+{
+    let range = read_range(words.at(1), words.at(2))?;
+    let of = read_between(0, TICKETS, words.at(3))?;
+    Ok(plain(Call::End {
+        range,
+        of: Some(of),
+    }))
 }
 
 fn query(words: &Tail<'_, '_>) -> Result<SpelledCall, Stop>
@@ -308,6 +340,7 @@ pub fn read_call(alloc: Global, kind: CallKind, words: &Tail<'_, '_>) -> Result<
         CallKind::Dirty => dirty(words),
         CallKind::Begin => begin(words),
         CallKind::End => end(words),
+        CallKind::EndOf => end_of(words),
         CallKind::Query => query(words),
         CallKind::Stats => stats(words),
         CallKind::Always => always(words),

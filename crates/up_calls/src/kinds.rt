@@ -11,7 +11,10 @@ pub enum CallKind {
     Fail,
     Dirty,
     Begin,
+    /// An end without a number, as a ranged journal has them.
     End,
+    /// An end that names the number of its begin, as a numbered journal has them.
+    EndOf,
     Query,
     Stats,
     Always,
@@ -33,7 +36,8 @@ pub enum CallKind {
     Busy,
 }
 
-pub const CALLS: [CallKind; 27] = [
+/// All kinds but those of ends, whose form is the journal's.
+pub const CALLS: [CallKind; 26] = [
     CallKind::Read,
     CallKind::Write,
     CallKind::Retry,
@@ -41,7 +45,6 @@ pub const CALLS: [CallKind; 27] = [
     CallKind::Fail,
     CallKind::Dirty,
     CallKind::Begin,
-    CallKind::End,
     CallKind::Query,
     CallKind::Stats,
     CallKind::Always,
@@ -76,7 +79,7 @@ impl CallKind {
             CallKind::Fail => b"fail",
             CallKind::Dirty => b"dirty",
             CallKind::Begin => b"begin",
-            CallKind::End => b"end",
+            CallKind::End | CallKind::EndOf => b"end",
             CallKind::Query => b"query",
             CallKind::Stats => b"stats",
             CallKind::Always => b"always",
@@ -108,7 +111,7 @@ impl CallKind {
         match self {
             CallKind::Read | CallKind::Write | CallKind::Supply => 5,
             CallKind::Fail | CallKind::Dirty | CallKind::Begin => 4,
-            CallKind::Query | CallKind::Pin | CallKind::Busy => 4,
+            CallKind::EndOf | CallKind::Query | CallKind::Pin | CallKind::Busy => 4,
             CallKind::Retry | CallKind::End | CallKind::Always | CallKind::Cold => 3,
             CallKind::Unpin | CallKind::Evict | CallKind::Borrow | CallKind::Zero => 3,
             CallKind::Fetched | CallKind::Copied | CallKind::Stored => 3,

@@ -84,7 +84,7 @@ fn put_short_call(out: &mut Vec<u8>, call: &Call) -> Result<(), Memory>
         Call::Fail { range, code } => put_fail(out, *range, *code),
         Call::Dirty { range, brought } => put_filled(out, b"dirty", *range, *brought),
         Call::Begin { range, zero } => put_begin(out, *range, *zero),
-        Call::End { range } => put_with_range(out, b"end", *range),
+        Call::End { range, of } => put_end(out, *range, *of),
         Call::Query { range, room } => put_query(out, *range, *room),
         Call::Stats { reset } => put_with_flag(out, b"stats", b"reset", b"keep", *reset),
         Call::Hint { range, kind } => put_with_range(out, hint(*kind), *range),
@@ -125,6 +125,16 @@ fn put_begin(out: &mut Vec<u8>, range: PageRange, zero: bool) -> Result<(), Memo
 {
     put_with_range(out, b"begin", range)?;
     put_flag(out, b"zero", b"any", zero)
+}
+
+fn put_end(out: &mut Vec<u8>, range: PageRange, of: Option<u64>) -> Result<(), Memory>
+    ensures { OnOk result (out.new.items ≡ out.old.items ++ spaced (call_words (calls.End range of))) }
+{
+    put_with_range(out, b"end", range)?;
+    match of {
+        None => Ok(()),
+        Some(number) => put_next(out, number),
+    }
 }
 
 fn put_query(out: &mut Vec<u8>, range: PageRange, room: u32) -> Result<(), Memory>

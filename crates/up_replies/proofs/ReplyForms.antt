@@ -1,5 +1,5 @@
 -- Replies: each is read from its words, and from no others, and its words are words.
-use Rattle.std.proofs.Common.{◌≡◌, ℕ, ◌<◌, ◌≤◌, true, ⊎_elim, eqb, cond, List, [], ◌∷◌, length, Option, Some, None, Ok, refl, sym, ap, ap₂, subst, ◌∙◌, arith}
+use Rattle.std.proofs.Common.{◌≡◌, ℕ, ◌<◌, ◌≤◌, Bool, true, false, ◌⊎◌, inl, inr, ⊎_elim, eqb, cond, List, [], ◌∷◌, length, Option, Some, None, Ok, refl, sym, ap, ap₂, subst, ◌∙◌, arith}
 use Rattle.std.specs.Prelude.{codes}
 use Rattle.std.specs.List.{list_all}
 use Rattle.std.proofs.lemmas.Bool.{and_parts, eqb-true}
@@ -24,10 +24,10 @@ use Rattle.up_fields.specs.Text.{page_text, code_text}
 use Rattle.up_replies.specs.Text.{refusal_words, reply_words}
 use Rattle.up_fields.specs.Fields.{flag_in, page_in, range_in, total_of, tickets_in, pages_in, runs_of_pages_in}
 use Rattle.up_words.specs.Refusals.{code_in}
-use Rattle.up_replies.specs.Kinds.{reply_verb, reply_size}
-use Rattle.up_replies.specs.Replies.{pager_refusal, plain_refusal, page_refusal, fixed_fit, reply_fits, first_reply, reply_kind, list_fits, plain_reply, reply_in, reply_of}
+use Rattle.up_replies.specs.Kinds.{reply_verb, reply_size, reply_kinds, numbered_kinds}
+use Rattle.up_replies.specs.Replies.{pager_refusal, plain_refusal, page_refusal, fixed_fit, reply_fits, first_reply, or_kind, reply_kind, list_fits, plain_reply, reply_in, reply_of}
 use Rattle.up_fields.specs.Allowed.{lies, page_lies, range_lies}
-use Rattle.up_replies.specs.Allowed.{reply_allowed, reply_bytes}
+use Rattle.up_replies.specs.Allowed.{reply_allowed, reply_bytes, is_known}
 use Rattle.up_replies.specs.declared.replies.SpelledReply.{SpelledReply}
 use Rattle.up_replies.specs.declared.kinds.ReplyKind.{ReplyKind}
 use Rattle.up_replies.specs.declared.kinds.ReplyKind.TheVariants as kinds
@@ -67,6 +67,8 @@ kind_of (replies.Refused (refusals.Pinned page)) = kinds.RefusedPage
 kind_of (replies.Refused (refusals.Unpinned page)) = kinds.RefusedPage
 kind_of (replies.Refused (refusals.PinLimit page)) = kinds.RefusedPage
 kind_of (replies.Refused (refusals.Unclean page)) = kinds.RefusedPage
+kind_of (replies.Began number) = kinds.Began
+kind_of (replies.Refused (refusals.NotBegun number)) = kinds.RefusedNumber
 
 -- a refusal for a code is found by the code's word
 pager_found : (code : Code) → plain_refusal (code_text code) ≡ Some (refusals.Pager code)
@@ -77,38 +79,42 @@ pager_found NoSpace = refl
 pager_found BufferTooSmall = refl
 
 -- a reply's words are of its kind
-pub reply_found : (reply : Reply) → reply_kind (reply_words reply) ≡ Some (kind_of reply)
+pub reply_found : (numbers : Bool) (reply : Reply) → is_known numbers reply ≡ true → reply_kind numbers (reply_words reply) ≡ Some (kind_of reply)
 unfolding first_reply
-reply_found (replies.Bytes bytes) = refl
-reply_found replies.Done = refl
-reply_found replies.Waiting = refl
-reply_found replies.Noted = refl
-reply_found replies.Empty = refl
-reply_found replies.Finished = refl
-reply_found (replies.Blocked ticket) = refl
-reply_found (replies.Needs count) = refl
-reply_found (replies.Took pages woke) = refl
-reply_found (replies.Woke woke) = refl
-reply_found (replies.Ranges total list) = refl
-reply_found (replies.Modified modified) = rw (flag_again (codes "1") (codes "0") modified refl refl refl) refl
-reply_found (replies.Borrowed borrowed) = rw (flag_again (codes "1") (codes "0") borrowed refl refl refl) refl
-reply_found (replies.Pages numbers) = refl
-reply_found (replies.Vacated moved evicted) = refl
-reply_found (replies.Packet (packets.Read range)) = refl
-reply_found (replies.Packet (packets.Dirty range)) = refl
-reply_found (replies.Packet packets.Complete) = refl
-reply_found (replies.Left woken) = refl
-reply_found (replies.Refused refusals.Range) = refl
-reply_found (replies.Refused refusals.Detached) = refl
-reply_found (replies.Refused refusals.NotTrap) = refl
-reply_found (replies.Refused refusals.Fixed) = refl
-reply_found (replies.Refused refusals.NoFrames) = refl
-reply_found (replies.Refused (refusals.Pager code)) = rw (pager_found code) refl
-reply_found (replies.Refused (refusals.NotFound page)) = refl
-reply_found (replies.Refused (refusals.Pinned page)) = refl
-reply_found (replies.Refused (refusals.Unpinned page)) = refl
-reply_found (replies.Refused (refusals.PinLimit page)) = refl
-reply_found (replies.Refused (refusals.Unclean page)) = refl
+reply_found numbers (replies.Bytes bytes) e = refl
+reply_found numbers replies.Done e = refl
+reply_found numbers replies.Waiting e = refl
+reply_found numbers replies.Noted e = refl
+reply_found numbers replies.Empty e = refl
+reply_found numbers replies.Finished e = refl
+reply_found numbers (replies.Blocked ticket) e = refl
+reply_found numbers (replies.Needs count) e = refl
+reply_found numbers (replies.Took pages woke) e = refl
+reply_found numbers (replies.Woke woke) e = refl
+reply_found numbers (replies.Ranges total list) e = refl
+reply_found numbers (replies.Modified modified) e = rw (flag_again (codes "1") (codes "0") modified refl refl refl) refl
+reply_found numbers (replies.Borrowed borrowed) e = rw (flag_again (codes "1") (codes "0") borrowed refl refl refl) refl
+reply_found numbers (replies.Pages list) e = refl
+reply_found numbers (replies.Vacated moved evicted) e = refl
+reply_found numbers (replies.Packet (packets.Read range)) e = refl
+reply_found numbers (replies.Packet (packets.Dirty range)) e = refl
+reply_found numbers (replies.Packet packets.Complete) e = refl
+reply_found numbers (replies.Left woken) e = refl
+reply_found numbers (replies.Refused refusals.Range) e = refl
+reply_found numbers (replies.Refused refusals.Detached) e = refl
+reply_found numbers (replies.Refused refusals.NotTrap) e = refl
+reply_found numbers (replies.Refused refusals.Fixed) e = refl
+reply_found numbers (replies.Refused refusals.NoFrames) e = refl
+reply_found numbers (replies.Refused (refusals.Pager code)) e = rw (pager_found code) refl
+reply_found numbers (replies.Refused (refusals.NotFound page)) e = refl
+reply_found numbers (replies.Refused (refusals.Pinned page)) e = refl
+reply_found numbers (replies.Refused (refusals.Unpinned page)) e = refl
+reply_found numbers (replies.Refused (refusals.PinLimit page)) e = refl
+reply_found numbers (replies.Refused (refusals.Unclean page)) e = refl
+reply_found true (replies.Began number) e = refl
+reply_found false (replies.Began number) e = absurd cc
+reply_found true (replies.Refused (refusals.NotBegun number)) e = refl
+reply_found false (replies.Refused (refusals.NotBegun number)) e = absurd cc
 
 -- an allowed reply's list is of its form
 pub list_shown : (reply : Reply) → reply_allowed reply ≡ true → list_fits (kind_of reply) (reply_words reply) ≡ true
@@ -144,6 +150,8 @@ list_shown (replies.Refused (refusals.Pinned page)) e = refl
 list_shown (replies.Refused (refusals.Unpinned page)) e = refl
 list_shown (replies.Refused (refusals.PinLimit page)) e = refl
 list_shown (replies.Refused (refusals.Unclean page)) e = refl
+list_shown (replies.Began number) e = refl
+list_shown (replies.Refused (refusals.NotBegun number)) e = refl
 
 -- how a reply is read from its words
 pub record ReplyAgain (reply : Reply) : Type 0 where
@@ -201,6 +209,8 @@ reply_again (replies.Refused (refusals.Pinned page)) e few = plain (replies.Refu
 reply_again (replies.Refused (refusals.Unpinned page)) e few = plain (replies.Refused (refusals.Unpinned page)) refl (rw (page_again all_pages page (omega arith) e) refl)
 reply_again (replies.Refused (refusals.PinLimit page)) e few = plain (replies.Refused (refusals.PinLimit page)) refl (rw (page_again all_pages page (omega arith) e) refl)
 reply_again (replies.Refused (refusals.Unclean page)) e few = plain (replies.Refused (refusals.Unclean page)) refl (rw (page_again all_pages page (omega arith) e) refl)
+reply_again (replies.Began number) e few = plain (replies.Began number) refl (rw (number_again 0 all_tickets number (omega arith) e) refl)
+reply_again (replies.Refused (refusals.NotBegun number)) e few = plain (replies.Refused (refusals.NotBegun number)) refl (rw (number_again 0 all_tickets number (omega arith) e) refl)
 
 -- an allowed reply's words are words
 pub reply_good : (reply : Reply) → reply_allowed reply ≡ true → list_all is_word (reply_words reply) ≡ true
@@ -240,6 +250,8 @@ reply_good (replies.Refused (refusals.Pinned page)) e = rw (lies_word 0 all_page
 reply_good (replies.Refused (refusals.Unpinned page)) e = rw (lies_word 0 all_pages page.0 (omega arith) e) refl
 reply_good (replies.Refused (refusals.PinLimit page)) e = rw (lies_word 0 all_pages page.0 (omega arith) e) refl
 reply_good (replies.Refused (refusals.Unclean page)) e = rw (lies_word 0 all_pages page.0 (omega arith) e) refl
+reply_good (replies.Began number) e = rw (lies_word 0 all_tickets number (omega arith) e) refl
+reply_good (replies.Refused (refusals.NotBegun number)) e = rw (lies_word 0 all_tickets number (omega arith) e) refl
 
 -- one test of a chain of refusals
 link : (word this : List ℕ) (more : List (List ℕ)) (x : Refusal) (rest : Option Refusal) (y : Refusal) → cond (bytes_eq word this) (Some x) rest ≡ Some y → (this ∷ more) ≡ refusal_words x → (rest ≡ Some y → (word ∷ more) ≡ refusal_words y) → (word ∷ more) ≡ refusal_words y
@@ -267,11 +279,100 @@ page_takes_refusal word page why e =
     (λ e. link word (codes "unclean") (page_text page ∷ []) (refusals.Unclean page) _ why e refl
     (λ e. absurd (none_some why e))))))
 
--- a kind that was found fits
-pub found_fits : (all : List ReplyKind) (words : List (List ℕ)) (kind : ReplyKind) → first_reply all words ≡ Some kind → reply_fits kind words ≡ true
+-- a kind that was found first fits
+first_fits : (all : List ReplyKind) (words : List (List ℕ)) (kind : ReplyKind) → first_reply all words ≡ Some kind → reply_fits kind words ≡ true
 unfolding first_reply
-found_fits [] words kind e = absurd cc
-found_fits (this ∷ more) words kind e = ⊎_elim (λ p. subst (λ k. reply_fits k words ≡ true) (some_is this kind p.1) p.0) (λ p. found_fits more words kind p.1) (either (reply_fits this words) (Some this) (first_reply more words) (Some kind) e)
+first_fits [] words kind e = absurd cc
+first_fits (this ∷ more) words kind e = ⊎_elim (λ p. subst (λ k. reply_fits k words ≡ true) (some_is this kind p.1) p.0) (λ p. first_fits more words kind p.1) (either (reply_fits this words) (Some this) (first_reply more words) (Some kind) e)
+
+-- the kinds that are looked for first are none of numbers
+abbrev is_old : ReplyKind → Bool
+is_old kinds.Began = false
+is_old kinds.RefusedNumber = false
+is_old _ = true
+
+first_among : (all : List ReplyKind) (words : List (List ℕ)) (kind : ReplyKind) → list_all is_old all ≡ true → first_reply all words ≡ Some kind → is_old kind ≡ true
+unfolding first_reply
+first_among [] words kind all e = absurd cc
+first_among (this ∷ more) words kind all e =
+    let p = and_parts (is_old this) (list_all is_old more) all in
+    ⊎_elim (λ q. subst (λ k. is_old k ≡ true) (some_is this kind q.1) p.0) (λ q. first_among more words kind p.1 q.1) (either (reply_fits this words) (Some this) (first_reply more words) (Some kind) e)
+
+-- one of two kinds that were looked for
+or_parts : (first other : Option ReplyKind) (kind : ReplyKind) → or_kind first other ≡ Some kind → (first ≡ Some kind) ⊎ (other ≡ Some kind)
+or_parts (Some this) other kind e = inl e
+or_parts None other kind e = inr e
+
+numbers_hold : (numbers : Bool) (found : Option ReplyKind) (kind : ReplyKind) → cond numbers found None ≡ Some kind → (numbers ≡ true) × (found ≡ Some kind)
+numbers_hold true found kind e = (refl, e)
+numbers_hold false found kind e = absurd (none_some kind e)
+
+-- a kind that was found fits
+pub found_fits : (numbers : Bool) (words : List (List ℕ)) (kind : ReplyKind) → reply_kind numbers words ≡ Some kind → reply_fits kind words ≡ true
+found_fits numbers words kind e =
+    ⊎_elim (λ p. first_fits reply_kinds words kind p) (λ p. first_fits numbered_kinds words kind (numbers_hold numbers (first_reply numbered_kinds words) kind p).1)
+    (or_parts (first_reply reply_kinds words) (cond numbers (first_reply numbered_kinds words) None) kind e)
+
+-- a kind that may be found in a text with or without numbers of begins
+abbrev pub may_be : Bool → ReplyKind → Bool
+may_be numbers kinds.Began = numbers
+may_be numbers kinds.RefusedNumber = numbers
+may_be numbers _ = true
+
+pub found_may_be : (numbers : Bool) (words : List (List ℕ)) (kind : ReplyKind) → reply_kind numbers words ≡ Some kind → may_be numbers kind ≡ true
+found_may_be numbers words kind e =
+    ⊎_elim (λ p. old numbers kind (first_among reply_kinds words kind refl p)) (λ p. new numbers kind (numbers_hold numbers (first_reply numbered_kinds words) kind p).0)
+    (or_parts (first_reply reply_kinds words) (cond numbers (first_reply numbered_kinds words) None) kind e)
+  where
+    old : (numbers : Bool) (kind : ReplyKind) → is_old kind ≡ true → may_be numbers kind ≡ true
+    old numbers kinds.Bytes e = refl
+    old numbers kinds.Done e = refl
+    old numbers kinds.Waiting e = refl
+    old numbers kinds.Noted e = refl
+    old numbers kinds.Empty e = refl
+    old numbers kinds.Finished e = refl
+    old numbers kinds.Blocked e = refl
+    old numbers kinds.Needs e = refl
+    old numbers kinds.Took e = refl
+    old numbers kinds.Woke e = refl
+    old numbers kinds.Ranges e = refl
+    old numbers kinds.Modified e = refl
+    old numbers kinds.Borrowed e = refl
+    old numbers kinds.Pages e = refl
+    old numbers kinds.Vacated e = refl
+    old numbers kinds.PacketRead e = refl
+    old numbers kinds.PacketDirty e = refl
+    old numbers kinds.PacketComplete e = refl
+    old numbers kinds.Left e = refl
+    old numbers kinds.RefusedPlain e = refl
+    old numbers kinds.RefusedPage e = refl
+    old numbers kinds.Began e = absurd cc
+    old numbers kinds.RefusedNumber e = absurd cc
+
+    new : (numbers : Bool) (kind : ReplyKind) → numbers ≡ true → may_be numbers kind ≡ true
+    new numbers kinds.Bytes e = refl
+    new numbers kinds.Done e = refl
+    new numbers kinds.Waiting e = refl
+    new numbers kinds.Noted e = refl
+    new numbers kinds.Empty e = refl
+    new numbers kinds.Finished e = refl
+    new numbers kinds.Blocked e = refl
+    new numbers kinds.Needs e = refl
+    new numbers kinds.Took e = refl
+    new numbers kinds.Woke e = refl
+    new numbers kinds.Ranges e = refl
+    new numbers kinds.Modified e = refl
+    new numbers kinds.Borrowed e = refl
+    new numbers kinds.Pages e = refl
+    new numbers kinds.Vacated e = refl
+    new numbers kinds.PacketRead e = refl
+    new numbers kinds.PacketDirty e = refl
+    new numbers kinds.PacketComplete e = refl
+    new numbers kinds.Left e = refl
+    new numbers kinds.RefusedPlain e = refl
+    new numbers kinds.RefusedPage e = refl
+    new numbers kinds.Began e = e
+    new numbers kinds.RefusedNumber e = e
 
 -- what fits has its verb, so many words, and its fixed words
 pub record Fits (kind : ReplyKind) (words : List (List ℕ)) : Type 0 where
@@ -422,3 +523,13 @@ reply_takes kinds.RefusedPage words spelled fits e less =
     let same : made ≡ spelled = ok_is made spelled b.2 in
     let behind = two refl (page_takes all_pages a.0 (word_at words 2) (omega arith) a.1) ∙ page_takes_refusal (word_at words 1) a.0 b.0 b.1 in
     whole_three words fits.size ∙ ap₂ (λ (w : List ℕ) (ws : List (List ℕ)). w ∷ ws) fits.verb behind ∙ ap (λ (s : SpelledReply). reply_words (reply_of s)) same
+reply_takes kinds.Began words spelled fits e less =
+    let a = bind_ok (number_between 0 all_tickets (word_at words 1)) _ spelled e in
+    let made : SpelledReply = plain_reply (replies.Began a.0) in
+    let same : made ≡ spelled = ok_is made spelled a.2 in
+    whole_two words fits.size ∙ two fits.verb (number_takes 0 all_tickets a.0 (word_at words 1) (omega arith) a.1) ∙ ap (λ (s : SpelledReply). reply_words (reply_of s)) same
+reply_takes kinds.RefusedNumber words spelled fits e less =
+    let a = bind_ok (number_between 0 all_tickets (word_at words 2)) _ spelled e in
+    let made : SpelledReply = plain_reply (replies.Refused (refusals.NotBegun a.0)) in
+    let same : made ≡ spelled = ok_is made spelled a.2 in
+    whole_three words fits.size ∙ three fits.verb (same_word (word_at words 1) (codes "not-begun") fits.fixed) (number_takes 0 all_tickets a.0 (word_at words 2) (omega arith) a.1) ∙ ap (λ (s : SpelledReply). reply_words (reply_of s)) same

@@ -21,11 +21,13 @@ refusal_allowed (refusals.Pinned page) = page_lies page
 refusal_allowed (refusals.Unpinned page) = page_lies page
 refusal_allowed (refusals.PinLimit page) = page_lies page
 refusal_allowed (refusals.Unclean page) = page_lies page
+refusal_allowed (refusals.NotBegun number) = lies 0 all_tickets number
 refusal_allowed _ = true
 
 -- the reply has a text
 abbrev pub reply_allowed : Reply → Bool
 reply_allowed (replies.Bytes bytes) = are_bytes bytes
+reply_allowed (replies.Began number) = lies 0 all_tickets number
 reply_allowed (replies.Blocked ticket) = lies 0 all_tickets ticket
 reply_allowed (replies.Needs count) = lies 0 all_counts count
 reply_allowed (replies.Took pages woke) = lies 0 all_counts pages && list_all (lies 0 all_tickets) woke
@@ -37,6 +39,12 @@ reply_allowed (replies.Packet request) = packet_allowed request
 reply_allowed (replies.Left woken) = lies 0 all_counts woken
 reply_allowed (replies.Refused why) = refusal_allowed why
 reply_allowed _ = true
+
+-- the reply is one that a text with or without numbers of begins can have
+abbrev pub is_known : Bool → Reply → Bool
+is_known numbers (replies.Began number) = numbers
+is_known numbers (replies.Refused (refusals.NotBegun number)) = numbers
+is_known numbers _ = true
 
 abbrev pub reply_bytes : Reply → ℕ
 reply_bytes (replies.Bytes bytes) = length bytes

@@ -26,6 +26,8 @@ reply_verb reply.PacketComplete = codes "packet"
 reply_verb reply.Left = codes "left"
 reply_verb reply.RefusedPlain = codes "refused"
 reply_verb reply.RefusedPage = codes "refused"
+reply_verb reply.Began = codes "began"
+reply_verb reply.RefusedNumber = codes "refused"
 
 -- how many words a reply of this kind has
 abbrev pub reply_size : ReplyKind → ℕ
@@ -50,7 +52,13 @@ reply_size reply.PacketComplete = 2
 reply_size reply.Left = 2
 reply_size reply.RefusedPlain = 2
 reply_size reply.RefusedPage = 3
+reply_size reply.Began = 2
+reply_size reply.RefusedNumber = 3
 
--- all kinds of replies
+-- the kinds of replies of each text
 abbrev pub reply_kinds : List ReplyKind
 reply_kinds = reply.Bytes ∷ reply.Done ∷ reply.Waiting ∷ reply.Noted ∷ reply.Empty ∷ reply.Finished ∷ reply.Blocked ∷ reply.Needs ∷ reply.Took ∷ reply.Woke ∷ reply.Ranges ∷ reply.Modified ∷ reply.Borrowed ∷ reply.Pages ∷ reply.Vacated ∷ reply.PacketRead ∷ reply.PacketDirty ∷ reply.PacketComplete ∷ reply.Left ∷ reply.RefusedPlain ∷ reply.RefusedPage ∷ []
+
+-- those that a text has besides where it has numbers of begins
+abbrev pub numbered_kinds : List ReplyKind
+numbered_kinds = reply.Began ∷ reply.RefusedNumber ∷ []

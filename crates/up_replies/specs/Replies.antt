@@ -17,7 +17,7 @@ use Rattle.up_words.specs.declared.fault.Why.TheVariants.{Word}
 use Rattle.up_words.specs.declared.runs.Runs.{Runs}
 use Rattle.up_fields.specs.Fields.{is_found, flag_in, page_in, range_in, are_runs, pages_in, runs_of_pages_in, tickets_in}
 use Rattle.up_words.specs.Refusals.{code_in}
-use Rattle.up_replies.specs.Kinds.{reply_verb, reply_size, reply_kinds}
+use Rattle.up_replies.specs.Kinds.{reply_verb, reply_size, reply_kinds, numbered_kinds}
 use Rattle.up_fields.specs.Limits.{all_tickets, all_counts, all_pages}
 use Rattle.up_replies.specs.declared.kinds.ReplyKind.{ReplyKind}
 use Rattle.up_replies.specs.declared.kinds.ReplyKind.TheVariants as kinds
@@ -60,6 +60,7 @@ fixed_fit kinds.PacketDirty words = word_is words 1 (codes "dirty")
 fixed_fit kinds.PacketComplete words = word_is words 1 (codes "complete")
 fixed_fit kinds.RefusedPlain words = is_found (plain_refusal (word_at words 1))
 fixed_fit kinds.RefusedPage words = is_found (page_refusal (word_at words 1) first_page)
+fixed_fit kinds.RefusedNumber words = word_is words 1 (codes "not-begun")
 fixed_fit _ words = true
 
 -- the words are those of a reply of this kind: its verb, so many words, and the fixed ones
@@ -71,9 +72,14 @@ unfoldable pub first_reply : List ReplyKind → List (List ℕ) → Option Reply
 first_reply [] words = None
 first_reply (kind ∷ more) words = cond (reply_fits kind words) (Some kind) (first_reply more words)
 
--- the kind of reply that the words are
-abbrev pub reply_kind : List (List ℕ) → Option ReplyKind
-reply_kind words = first_reply reply_kinds words
+-- a kind, or else another
+abbrev pub or_kind : Option ReplyKind → Option ReplyKind → Option ReplyKind
+or_kind (Some kind) other = Some kind
+or_kind None other = other
+
+-- the kind of reply that the words are, in a text with or without numbers of begins
+abbrev pub reply_kind : Bool → List (List ℕ) → Option ReplyKind
+reply_kind numbers words = or_kind (first_reply reply_kinds words) (cond numbers (first_reply numbered_kinds words) None)
 
 -- the list of a reply of this kind is of its form
 abbrev pub list_fits : ReplyKind → List (List ℕ) → Bool
@@ -141,6 +147,12 @@ reply_in kinds.RefusedPage words = do
   page ← page_in all_pages (word_at words 2)
   why ← or_why Word (page_refusal (word_at words 1) page)
   Ok (plain_reply (replies.Refused why))
+reply_in kinds.Began words = do
+  number ← number_between 0 all_tickets (word_at words 1)
+  Ok (plain_reply (replies.Began number))
+reply_in kinds.RefusedNumber words = do
+  number ← number_between 0 all_tickets (word_at words 2)
+  Ok (plain_reply (replies.Refused (refusals.NotBegun number)))
 
 -- the reply with these bytes in place of its own, where it has any
 abbrev pub with_bytes : List ℕ → Reply → Reply

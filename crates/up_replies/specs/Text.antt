@@ -5,7 +5,6 @@ use Rattle.up_num.specs.declared.answers.Packet.{Packet as PacketValue}
 use Rattle.up_num.specs.declared.answers.Packet.TheVariants as packet
 use Rattle.up_num.specs.declared.answers.Refusal.{Refusal}
 use Rattle.up_num.specs.declared.answers.Refusal.TheVariants as refusal
-use Rattle.up_model.specs.declared.entry.Role.TheVariants.{Pager}
 use Rattle.up_model.specs.declared.entry.Reply.{Reply}
 use Rattle.up_model.specs.declared.entry.Reply.TheVariants as reply
 use Rattle.up_fields.specs.Text.{code_text, flag_text, list_text, page_text, range_words, run_of_pages}
@@ -27,11 +26,13 @@ refusal_words (refusal.Unpinned page) = codes "unpinned" ∷ page_text page ∷ 
 refusal_words (refusal.PinLimit page) = codes "pin-limit" ∷ page_text page ∷ []
 refusal_words (refusal.Unclean page) = codes "unclean" ∷ page_text page ∷ []
 refusal_words refusal.NoFrames = codes "no-frames" ∷ []
+refusal_words (refusal.NotBegun number) = codes "not-begun" ∷ decimal number ∷ []
 
 -- the words of a reply
 abbrev pub reply_words : Reply → List (List ℕ)
 reply_words (reply.Bytes bytes) = codes "bytes" ∷ bytes_text bytes ∷ []
 reply_words reply.Done = codes "done" ∷ []
+reply_words (reply.Began number) = codes "began" ∷ decimal number ∷ []
 reply_words (reply.Blocked ticket) = codes "blocked" ∷ decimal ticket ∷ []
 reply_words reply.Waiting = codes "waiting" ∷ []
 reply_words (reply.Needs count) = codes "needs" ∷ decimal count ∷ []

@@ -27,8 +27,13 @@ pub enum ReplyKind {
     RefusedPlain,
     /// A refusal that names a page.
     RefusedPage,
+    /// The number of a begin.
+    Began,
+    /// A refusal that names a number that no begin has.
+    RefusedNumber,
 }
 
+/// The kinds of replies of each text.
 pub const REPLIES: [ReplyKind; 21] = [
     ReplyKind::Bytes,
     ReplyKind::Done,
@@ -52,6 +57,9 @@ pub const REPLIES: [ReplyKind; 21] = [
     ReplyKind::RefusedPlain,
     ReplyKind::RefusedPage,
 ];
+
+/// Those that a text has besides where it has numbers of begins.
+pub const NUMBERED: [ReplyKind; 2] = [ReplyKind::Began, ReplyKind::RefusedNumber];
 
 impl ReplyKind {
     /// The first word of such a reply.
@@ -78,6 +86,8 @@ impl ReplyKind {
             ReplyKind::PacketComplete => b"packet",
             ReplyKind::Left => b"left",
             ReplyKind::RefusedPlain | ReplyKind::RefusedPage => b"refused",
+            ReplyKind::RefusedNumber => b"refused",
+            ReplyKind::Began => b"began",
         }
     }
 
@@ -91,7 +101,9 @@ impl ReplyKind {
             ReplyKind::Bytes | ReplyKind::Blocked | ReplyKind::Needs | ReplyKind::Woke => 2,
             ReplyKind::Modified | ReplyKind::Borrowed | ReplyKind::Pages => 2,
             ReplyKind::PacketComplete | ReplyKind::Left | ReplyKind::RefusedPlain => 2,
+            ReplyKind::Began => 2,
             ReplyKind::Ranges | ReplyKind::Vacated | ReplyKind::RefusedPage => 3,
+            ReplyKind::RefusedNumber => 3,
             ReplyKind::Took | ReplyKind::PacketRead | ReplyKind::PacketDirty => 4,
         }
     }

@@ -17,6 +17,7 @@ pub fn put_reply(out: &mut Vec<u8>, reply: &Reply) -> Result<(), Memory>
     match reply {
         Reply::Bytes(bytes) => put_with_bytes(out, bytes),
         Reply::Done => put_word(out, b"done"),
+        Reply::Began(number) => put_with_number(out, b"began", *number),
         Reply::Blocked(ticket) => put_with_number(out, b"blocked", *ticket),
         Reply::Waiting => put_word(out, b"waiting"),
         Reply::Needs(count) => put_with_number(out, b"needs", u64::from(*count)),
@@ -112,6 +113,7 @@ fn put_refusal(out: &mut Vec<u8>, why: Refusal) -> Result<(), Memory>
         Refusal::PinLimit(page) => put_with_page(out, b"pin-limit", page),
         Refusal::Unclean(page) => put_with_page(out, b"unclean", page),
         Refusal::NoFrames => put_word(out, b"no-frames"),
+        Refusal::NotBegun(number) => put_with_number(out, b"not-begun", number),
     }
 }
 

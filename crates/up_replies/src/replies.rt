@@ -1,10 +1,11 @@
 ghost use Rattle.std.specs.Prelude.{◌≡◌, IfOk};
 ghost use Rattle.up_words.specs.Steps.{Gives, or_why};
 ghost use Rattle.up_words.specs.declared.fault.Why.TheVariants.{Word};
+ghost use Rattle.up_replies.specs.Kinds.{numbered_kinds, reply_kinds};
 ghost use Rattle.up_replies.specs.Replies.{first_reply, fixed_fit, list_fits, page_refusal, plain_refusal, plain_reply, reply_fits, reply_in, reply_kind, reply_of};
 ghost use Rattle.up_replies.specs.declared.kinds.ReplyKind.TheVariants as kinds;
 
-use crate::kinds::{REPLIES, ReplyKind};
+use crate::kinds::{NUMBERED, REPLIES, ReplyKind};
 use std::alloc::Global;
 use up_fields::{
     COUNTS, PAGES, TICKETS, Tail, flag, read_count, read_flag, read_page, read_pages, read_range,
@@ -71,6 +72,7 @@ fn fits_fixed(kind: ReplyKind, words: &Tail<'_, '_>) -> bool
         ReplyKind::PacketComplete => words.reads(1, b"complete"),
         ReplyKind::RefusedPlain => refusal(words.at(1)).is_some(),
         ReplyKind::RefusedPage => refusal_of_page(words.at(1), PageNo(0)).is_some(),
+        ReplyKind::RefusedNumber => words.reads(1, b"not-begun"),
         _ => true,
     }
 }
@@ -95,11 +97,26 @@ fn find(kinds: &[ReplyKind], words: &Tail<'_, '_>) -> Option<ReplyKind>
     None
 }
 
-/// The kind of reply that the words are.
-pub fn find_reply(words: &Tail<'_, '_>) -> Option<ReplyKind>
-    ensures { result ≡ reply_kind words.now }
+fn find_first(words: &Tail<'_, '_>) -> Option<ReplyKind>
+    ensures { result ≡ first_reply reply_kinds words.now }
 {
     find(REPLIES.as_slice(), words)
+}
+
+fn find_numbered(words: &Tail<'_, '_>) -> Option<ReplyKind>
+    ensures { result ≡ first_reply numbered_kinds words.now }
+{
+    find(NUMBERED.as_slice(), words)
+}
+
+/// The kind of reply that the words are, in a text with or without numbers of begins.
+pub fn find_reply(numbers: bool, words: &Tail<'_, '_>) -> Option<ReplyKind>
+    ensures { result ≡ reply_kind numbers words.now }
+{
+    match find_first(words) {
+        Some(kind) => Some(kind),
+        None => { if numbers { find_numbered(words) } else { None } }
+    }
 }
 
 /// The list of a reply of this kind is of its form.
@@ -240,6 +257,20 @@ fn refused_page(words: &Tail<'_, '_>) -> Result<SpelledReply, Stop>
     Ok(plain(Reply::Refused(why)))
 }
 
+fn began(words: &Tail<'_, '_>) -> Result<SpelledReply, Stop>
+    ensures { Gives (λ spelled. spelled) result (reply_in kinds.Began words.now) }
+{
+    let number = read_between(0, TICKETS, words.at(1))?;
+    Ok(plain(Reply::Began(number)))
+}
+
+fn refused_number(words: &Tail<'_, '_>) -> Result<SpelledReply, Stop>
+    ensures { Gives (λ spelled. spelled) result (reply_in kinds.RefusedNumber words.now) }
+{
+    let number = read_between(0, TICKETS, words.at(2))?;
+    Ok(plain(Reply::Refused(Refusal::NotBegun(number))))
+}
+
 /// A reply of this kind. It takes memory by the length of its words.
 pub fn read_reply(
     alloc: Global,
@@ -270,6 +301,8 @@ pub fn read_reply(
         ReplyKind::Left => left(words),
         ReplyKind::RefusedPlain => refused_plain(words),
         ReplyKind::RefusedPage => refused_page(words),
+        ReplyKind::Began => began(words),
+        ReplyKind::RefusedNumber => refused_number(words),
     }
 }
 

@@ -9,7 +9,7 @@ use Rattle.up_words.specs.declared.fault.Why.{Why}
 use Rattle.up_words.proofs.Decimals.{ok_is}
 use Rattle.up_script.specs.Actions.{action_in, alone_of, fields_of, range_in, has_what_it_needs}
 use Rattle.up_script.specs.Declarations.{object_in}
-use Rattle.up_script.specs.Fit.{may_call, may_do, has_its_image}
+use Rattle.up_script.specs.Fit.{may_call, may_do, suits_object}
 use Rattle.up_script.specs.Verbs.{says, says_on, says_alone, call_over}
 use Rattle.up_script.specs.declared.declarations.Declared.{Declared}
 use Rattle.up_script.specs.declared.script.Action.{Action}
@@ -60,6 +60,10 @@ fields_may kind on.Supply object words action e s =
 fields_may kind (on.Range verb) object words action e s =
     let range = bind_ok (range_in words 3) _ action e in
     subst (MayDo kind) (ok_is _ action range.2) (range_may verb kind range.0 s)
+fields_may kind on.EndOf object words action e s =
+    let range = bind_ok (range_in words 3) _ action e in
+    let of = bind_ok (number_between 0 18446744073709551615 (word_at words 5)) _ action range.2 in
+    subst (MayDo kind) (ok_is _ action of.2) s
 fields_may kind on.Query object words action e s =
     let range = bind_ok (range_in words 3) _ action e in
     let room = bind_ok (number_between 0 65536 (word_at words 5)) _ action range.2 in
@@ -101,7 +105,7 @@ may_of declared kind (OnObject verb) words action e s =
     fields_may kind verb object.0 words action object.2 s
 
 -- what a line needs of its object
-pub same_needs : (declared : Declared) (action : Action) → has_what_it_needs declared action ≡ has_its_image declared.objects action
+pub same_needs : (declared : Declared) (action : Action) → has_what_it_needs declared action ≡ suits_object declared.objects action
 same_needs declared actions.Go = refl
 same_needs declared (actions.Read object off len) = refl
 same_needs declared (actions.Write object off bytes) = refl

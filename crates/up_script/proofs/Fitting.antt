@@ -20,11 +20,12 @@ use Rattle.up_words.specs.declared.fault.Why.{Why}
 use Rattle.up_words.specs.declared.fault.Why.TheVariants as why
 use Rattle.up_words.proofs.Decimals.{then_ok, ok_is, both, only}
 use Rattle.up_script.specs.Actions.{act, actor_in, action_in, object_of, is_bound, kind_of, may_act, has_left, has_what_it_needs, bytes_of, with_line}
-use Rattle.up_script.specs.Declarations.{is_first, may_loan, may_level, may_object, nothing_declared, frames_line, loan_line, levels_line, new_name, limit_in, image_in, with_object, object_line, object_in, bind_step, may_serve, with_actor, bound_line, first_numbers, evictor_line, binds, actor_line, is_trap_word, declaration_line, with_all_counted, is_whole}
-use Rattle.up_script.specs.Fit.{are_unlike, are_fit_frames, names_of, name_in, images_of, names_its_image, is_fit_actor, may_do, has_its_image, is_fit_line, Fits, SpellsFitting}
+use Rattle.up_script.specs.Declarations.{is_first, may_loan, may_level, may_object, nothing_declared, frames_line, loan_line, levels_line, new_name, limit_in, image_in, with_object, object_line, object_in, bind_step, may_serve, with_actor, bound_line, first_numbers, evictor_line, binds, actor_line, says_numbered, says_object, declaration_line, with_all_counted, is_whole}
+use Rattle.up_script.specs.Fit.{are_unlike, are_fit_frames, names_of, name_in, images_of, names_its_image, is_in_version, is_fit_actor, may_do, suits_object, is_fit_line, Fits, SpellsFitting}
 use Rattle.up_script.specs.Objects.{object_named, actor_named, image_named, is_image, has_image, is_among, counted, count_step, with_counts, is_served}
 use Rattle.up_script.specs.Reading.{nothing_played, declaring, stage_step, is_skipped, content, line_step, script_in, ended, last_step, script_of}
 use Rattle.up_script.specs.Sound.{is_within}
+use Rattle.up_script.specs.Versions.{is_version, has_modes, version_in}
 use Rattle.up_script.specs.Verbs.{verb_of, says}
 use Rattle.up_script.specs.declared.declarations.Declared.{Declared}
 use Rattle.up_script.specs.declared.declarations.Last.{Last}
@@ -40,6 +41,7 @@ use Rattle.up_script.specs.declared.script.ObjectLine.{ObjectLine}
 use Rattle.up_script.specs.declared.script.Script.{Script}
 use Rattle.up_script.proofs.Counts.{one_longer}
 use Rattle.up_script.proofs.Doing.{may_of, same_needs}
+use Rattle.up_script.proofs.FirstLine.{says as says_version, within_version}
 
 pub bind_ok : {X Y : Type 0} (r : Result X Why) (next : X → Result Y Why) (y : Y) → (r >>= next) ≡ Ok y → (x : X) × (r ≡ Ok x) × (next x ≡ Ok y)
 bind_ok (Ok x) next y e = (x, refl, e)
@@ -119,6 +121,8 @@ is_acted last.Actor = true
 is_acted _ = false
 
 pub record Declares (declared : Declared) : Type 0 where
+  pub version : is_version declared.version ≡ true
+  pub modes : list_all (is_in_version declared.version) declared.objects ≡ true
   pub frames : is_first declared.last ≡ false → are_fit_frames declared.stock.frames declared.stock.loan declared.stock.warn declared.stock.critical ≡ true
   pub none : is_acted declared.last ≡ false → declared.actors ≡ []
   pub names : are_unlike bytes_eq (names_of declared.objects declared.actors) ≡ true
@@ -186,6 +190,8 @@ frames_step line declared t words first d e =
     let n = frames.0 in
     let b = number_within 1 16384 n (word_at words 1) (omega arith) frames.1 in
     subst Declares (ok_is _ t frames.2) (record {
+      version = d.version;
+      modes = d.modes;
       frames = λ _. fit_frames n 0 (n / 4) (n / 8) b.0 b.1 (omega arith) (div-le_self n 4) (eighth_le n);
       none = λ _. d.none (first_none declared.last first);
       names = d.names;
@@ -202,6 +208,8 @@ loan_step line declared t words after d e =
     let stock = declared.stock in
     let f = fits_frames stock.frames stock.loan stock.warn stock.critical (d.frames l.0) in
     subst Declares (ok_is _ t loan.2) (record {
+      version = d.version;
+      modes = d.modes;
       frames = λ _. fit_frames stock.frames loan.0 stock.warn stock.critical f.some f.few b.1 f.warned f.lower;
       none = λ _. d.none l.1;
       names = d.names;
@@ -220,6 +228,8 @@ levels_step declared t words after d e =
     let critical = bind_ok (number_between 0 warn.0 (word_at words 2)) _ t warn.2 in
     let c = number_within 0 warn.0 critical.0 (word_at words 2) (omega (arith, f.few, w.1)) critical.1 in
     subst Declares (ok_is _ t critical.2) (record {
+      version = d.version;
+      modes = d.modes;
       frames = λ _. fit_frames stock.frames stock.loan warn.0 critical.0 f.some f.few f.loaned w.1 c.1;
       none = λ _. d.none l.1;
       names = d.names;
@@ -312,12 +322,22 @@ object_step line declared t words after d e =
     let made : ObjectLine = record {
       number = line;
       name = name.0;
-      birth = record { pages = pages.0; limit = limit.0; trap = word_is words 4 (codes "trap"); users = 0; pagers = 0; image = is_some image.0 };
+      birth = record {
+        pages = pages.0;
+        limit = limit.0;
+        trap = word_is words 4 (codes "trap");
+        users = 0;
+        pagers = 0;
+        image = is_some image.0;
+        numbered = says_numbered declared.version words;
+      };
       image = image.0;
     } in
     let none = d.none l.1 in
     let new = new_is declared (word_at words 1) name.0 name.1 in
     subst Declares (ok_is (with_object declared made) t few.1) (record {
+      version = d.version;
+      modes = all_push (is_in_version declared.version) declared.objects made d.modes (within_version (has_modes declared.version) (word_is words 6 (codes "numbered")));
       frames = λ _. d.frames l.0;
       none = λ _. none;
       names = ap (are_unlike bytes_eq) (names_object declared.objects declared.actors made none) ∙ unlike_push bytes_eq (names_of declared.objects declared.actors) name.0 d.names (new_among declared name.0 new);
@@ -331,6 +351,8 @@ actor_more : (declared t : Declared) (actor : ActorLine) → Declares declared �
 actor_more declared t actor d later new fit e =
     let few = then_ok why.Limit (ltb (length declared.actors) 64) _ t e in
     subst Declares (ok_is _ t few.1) (record {
+      version = d.version;
+      modes = d.modes;
       frames = λ _. d.frames later;
       none = λ q. absurd cc;
       names = ap (are_unlike bytes_eq) (names_actor declared.objects declared.actors actor) ∙ unlike_push bytes_eq (names_of declared.objects declared.actors) actor.name d.names (new_among declared actor.name new);
@@ -433,10 +455,10 @@ declaration_step line declared t words d e =
     ⊎_elim (λ p. frames_step line declared t words (and_parts (verb_is words 0 (codes "frames") 2) (is_first l) p.0).1 d p.1) (λ p.
     ⊎_elim (λ q. loan_step line declared t words (and_parts (verb_is words 0 (codes "loan") 2) (may_loan l) q.0).1 d q.1) (λ q.
     ⊎_elim (λ r. levels_step declared t words (and_parts (verb_is words 0 (codes "levels") 3) (may_level l) r.0).1 d r.1) (λ r.
-    ⊎_elim (λ s. object_step line declared t words (and_parts (verb_is words 0 (codes "object") 6 && is_trap_word (word_at words 4)) (may_object l) s.0).1 d s.1) (λ s.
+    ⊎_elim (λ s. object_step line declared t words (and_parts (says_object declared.version words) (may_object l) s.0).1 d s.1) (λ s.
     ⊎_elim (λ u. absurd (no_word why.Word t u.1)) (λ u. actor_step line declared t words u.0 d u.1)
     (either (is_first l) _ _ (Ok t) s.1))
-    (either (verb_is words 0 (codes "object") 6 && is_trap_word (word_at words 4) && may_object l) _ _ (Ok t) r.1))
+    (either (says_object declared.version words && may_object l) _ _ (Ok t) r.1))
     (either (verb_is words 0 (codes "levels") 3 && may_level l) _ _ (Ok t) q.1))
     (either (verb_is words 0 (codes "loan") 2 && may_loan l) _ _ (Ok t) p.1))
     (either (verb_is words 0 (codes "frames") 2 && is_first l) _ _ (Ok t) e)
@@ -466,6 +488,10 @@ counted_images actors n (o ∷ os) = ap (λ names. name_in o.image ++ names) (co
 counted_imaged : (actors : List ActorLine) (n : ℕ) (objects : List ObjectLine) → list_all names_its_image (counted_from actors n objects) ≡ list_all names_its_image objects
 counted_imaged actors n [] = refl
 counted_imaged actors n (o ∷ os) = ap (λ b. names_its_image o && b) (counted_imaged actors (suc n) os)
+
+counted_modes : (version : ℕ) (actors : List ActorLine) (n : ℕ) (objects : List ObjectLine) → list_all (is_in_version version) (counted_from actors n objects) ≡ list_all (is_in_version version) objects
+counted_modes version actors n [] = refl
+counted_modes version actors n (o ∷ os) = ap (λ b. is_in_version version o && b) (counted_modes version actors (suc n) os)
 
 counted_length : (actors : List ActorLine) (n : ℕ) (objects : List ObjectLine) → length (counted_from actors n objects) ≡ length objects
 counted_length actors n [] = refl
@@ -502,6 +528,8 @@ abbrev line_bytes : Line → ℕ
 line_bytes line = bytes_of line.action
 
 pub record Plays (declared : Declared) (played : Played) : Type 0 where
+  pub version : is_version declared.version ≡ true
+  pub modes : list_all (is_in_version declared.version) declared.objects ≡ true
   pub frames : are_fit_frames declared.stock.frames declared.stock.loan declared.stock.warn declared.stock.critical ≡ true
   pub names : are_unlike bytes_eq (names_of declared.objects declared.actors) ≡ true
   pub images : are_unlike bytes_eq (images_of declared.objects) ≡ true
@@ -520,6 +548,8 @@ steps_begin declared d whole =
     let alike : Alike objects declared.objects =
     subst (λ (os : List ObjectLine). Alike os declared.objects) (sym is) (record { long = counted_length actors 0 declared.objects; image = λ place. counted_has actors 0 declared.objects place }) in
     record {
+      version = d.version;
+      modes = ap (list_all (is_in_version declared.version)) is ∙ counted_modes declared.version actors 0 declared.objects ∙ d.modes;
       frames = d.frames later;
       names = ap (λ names. are_unlike bytes_eq (names ++ map (λ (a : ActorLine). a.name) actors)) (ap (map (λ (o : ObjectLine). o.name)) is ∙ counted_names actors 0 declared.objects) ∙ d.names;
       images = ap (are_unlike bytes_eq) (ap images_of is ∙ counted_images actors 0 declared.objects) ∙ d.images;
@@ -531,7 +561,7 @@ steps_begin declared d whole =
 
 act_step : (number : ℕ) (declared : Declared) (played t : Played) (words : List (List ℕ)) → Plays declared played → act declared number played words ≡ Ok t → Plays declared t
 act_step number declared played t words p e =
-    let verb = found_ok why.Word (verb_of words) _ t e in
+    let verb = found_ok why.Word (verb_of declared.version words) _ t e in
     let actor = bind_ok (actor_in declared (word_at words 0)) _ t verb.2 in
     let who = slice_get declared.actors actor.0 in
     let kind = kind_of who in
@@ -544,9 +574,11 @@ act_step number declared played t words p e =
     let b = and_parts (says verb.0 kind) (is_bound who (object_of action.0)) a.0 in
     let line : Line = record { number = number; actor = actor.0; action = action.0 } in
     let fit : is_fit_line declared.objects declared.actors line ≡ true =
-    both (may_do kind action.0) (is_bound who (object_of action.0) && has_its_image declared.objects action.0) (may_of declared kind verb.0 words action.0 action.1 b.0)
-    (both (is_bound who (object_of action.0)) (has_its_image declared.objects action.0) b.1 (sym (same_needs declared action.0) ∙ a.1)) in
+    both (may_do kind action.0) (is_bound who (object_of action.0) && suits_object declared.objects action.0) (may_of declared kind verb.0 words action.0 action.1 b.0)
+    (both (is_bound who (object_of action.0)) (suits_object declared.objects action.0) b.1 (sym (same_needs declared action.0) ∙ a.1)) in
     subst (Plays declared) (ok_is (with_line played number actor.0 action.0) t room.1) (record {
+      version = p.version;
+      modes = p.modes;
       frames = p.frames;
       names = p.names;
       images = p.images;
@@ -562,9 +594,9 @@ Keeps stages.Header = Unit {0}
 Keeps (stages.Declaring declared) = Declares declared
 Keeps (stages.Acting declared played) = Plays declared played
 
-pub nothing_declares : Declares nothing_declared
+pub nothing_declares : (version : ℕ) → is_version version ≡ true → Declares (nothing_declared version)
 unfolding are_unlike images_of
-nothing_declares = record { frames = λ q. absurd cc; none = λ _. refl; names = refl; images = refl; imaged = refl; actors = refl }
+nothing_declares version known = record { version = known; modes = refl; frames = λ q. absurd cc; none = λ _. refl; names = refl; images = refl; imaged = refl; actors = refl }
 
 declaring_step : (number : ℕ) (declared : Declared) (t : Stage) (words : List (List ℕ)) → Declares declared → declaring number declared words ≡ Ok t → Keeps t
 declaring_step number declared t words d e = ⊎_elim ends more (either (verb_is words 0 (codes "steps") 1)
@@ -595,8 +627,8 @@ spoken number s t line k e = ⊎_elim (λ p. subst Keeps (ok_is s t p.1) k) (λ 
 
 content_keeps : (number : ℕ) (s t : Stage) (line : List ℕ) → Keeps s → content number s line ≡ Ok t → Keeps t
 content_keeps number stages.Header t line k e =
-    ⊎_elim (λ p. subst Keeps (ok_is (stages.Declaring nothing_declared) t p.1) nothing_declares) (λ p. absurd (no_word why.Header t p.1))
-    (either (bytes_eq line (codes "pagerd-script 1")) (Ok (stages.Declaring nothing_declared)) (Err why.Header) (Ok t) e)
+    let version = found_ok why.Header (version_in line) _ t e in
+    subst Keeps (ok_is (stages.Declaring (nothing_declared version.0)) t version.2) (nothing_declares version.0 (says_version line version.0 version.1).known)
 content_keeps number (stages.Declaring declared) t line k e = spoken number (stages.Declaring declared) t line k e
 content_keeps number (stages.Acting declared played) t line k e = spoken number (stages.Acting declared played) t line k e
 
@@ -610,6 +642,8 @@ ended_keeps : (s : Stage) (script : Script) → Keeps s → ended s ≡ Ok scrip
 ended_keeps stages.Header script k e = absurd (no_word why.Header script e)
 ended_keeps (stages.Declaring declared) script k e = absurd (no_word why.Missing script e)
 ended_keeps (stages.Acting declared played) script k e = subst Fits (ok_is (script_in declared played) script e) (record {
+  version = k.version;
+  modes = k.modes;
   frames = k.frames;
   names = k.names;
   images = k.images;

@@ -1,6 +1,7 @@
 pub mod Counts
 pub mod Doing
 pub mod Faults
+pub mod FirstLine
 pub mod Fitting
 pub mod OwnActions
 pub mod OwnBack

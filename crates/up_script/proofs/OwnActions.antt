@@ -27,10 +27,11 @@ use Rattle.up_script.specs.Actions.{range_in}
 use Rattle.up_script.specs.Declarations.{object_in}
 use Rattle.up_script.specs.Fit.{are_unlike, may_do}
 use Rattle.up_script.specs.Laws.{IsReadAs, ReadsItsAction}
-use Rattle.up_script.specs.Sound.{is_within, is_sound_range, brings_nothing, is_sound_call, is_sound_action}
+use Rattle.up_script.specs.Sound.{is_within, is_sound_range, is_sound_number, brings_nothing, is_sound_call, is_sound_action}
 use Rattle.up_script.specs.Text.{action_words, object_names}
 use Rattle.up_script.specs.Verbs.{role_of}
-use Rattle.up_script.specs.Whole.{has_bytes, LeavesAs}
+use Rattle.up_script.specs.Versions.{has_modes}
+use Rattle.up_script.specs.Whole.{has_bytes, is_spoken_in, LeavesAs}
 use Rattle.up_script.specs.declared.declarations.Declared.{Declared}
 use Rattle.up_script.specs.declared.script.Action.{Action}
 use Rattle.up_script.specs.declared.script.Action.TheVariants as actions
@@ -123,70 +124,73 @@ module _ (declared : Declared) (kind : Kind) (name : List ℕ) (object : ℕ) (a
         may,
       )
 
-  call_back : (call : Call) → is_sound_call call ≡ true → has_bytes (actions.Act object call) ≡ true → LeavesAs kind (actions.Act object call) → may_do kind (actions.Act object call) ≡ true → Again (actions.Act object call)
-  call_back (calls.Read piece last brought) sound all role may = absurd cc
-  call_back (calls.Write off bytes last brought) sound all role may = absurd cc
-  call_back (calls.Retry ticket brought) sound all role may = absurd cc
-  call_back (calls.Supply range bytes Nothing) sound all role may =
+  call_back : (call : Call) → is_sound_call call ≡ true → has_bytes (actions.Act object call) ≡ true → is_spoken_in declared.version (actions.Act object call) ≡ true → LeavesAs kind (actions.Act object call) → may_do kind (actions.Act object call) ≡ true → Again (actions.Act object call)
+  call_back (calls.Read piece last brought) sound all form role may = absurd cc
+  call_back (calls.Write off bytes last brought) sound all form role may = absurd cc
+  call_back (calls.Retry ticket brought) sound all form role may = absurd cc
+  call_back (calls.Supply range bytes Nothing) sound all form role may =
       let p = and_parts (is_sound_range range && leb range.count 16 && eqb (length bytes) (range.count * 4096)) true sound in
       let q = and_parts (is_sound_range range && leb range.count 16) (eqb (length bytes) (range.count * 4096)) p.0 in
       let r = and_parts (is_sound_range range) (leb range.count 16) q.0 in
       supply_back range bytes r.0 r.1 q.1 all may
-  call_back (calls.Supply range bytes (Frames count)) sound all role may = absurd (false_last _ sound)
-  call_back (calls.Supply range bytes Scanned) sound all role may = absurd (false_last _ sound)
-  call_back (calls.Fail range code) sound all role may =
+  call_back (calls.Supply range bytes (Frames count)) sound all form role may = absurd (false_last _ sound)
+  call_back (calls.Supply range bytes Scanned) sound all form role may = absurd (false_last _ sound)
+  call_back (calls.Fail range code) sound all form role may =
       (OnObject (on.Range (over.Fail code)), rw (code_again code) refl, rw (object_back, range_back name (codes "fail") the range (code_text code ∷ []) sound) refl, may)
-  call_back (calls.Dirty range Nothing) sound all role may =
+  call_back (calls.Dirty range Nothing) sound all form role may =
       (OnObject (on.Range over.Dirty), refl, rw (object_back, range_back name (codes "dirty") the range [] (and_parts (is_sound_range range) true sound).0) refl, may)
-  call_back (calls.Dirty range (Frames count)) sound all role may = absurd (false_last _ sound)
-  call_back (calls.Dirty range Scanned) sound all role may = absurd (false_last _ sound)
-  call_back (calls.Begin range false) sound all role may =
+  call_back (calls.Dirty range (Frames count)) sound all form role may = absurd (false_last _ sound)
+  call_back (calls.Dirty range Scanned) sound all form role may = absurd (false_last _ sound)
+  call_back (calls.Begin range false) sound all form role may =
       (OnObject (on.Range (over.Begin false)), refl, rw (object_back, range_back name (codes "begin") the range (codes "any" ∷ []) sound) refl, may)
-  call_back (calls.Begin range true) sound all role may =
+  call_back (calls.Begin range true) sound all form role may =
       (OnObject (on.Range (over.Begin true)), refl, rw (object_back, range_back name (codes "begin") the range (codes "zero" ∷ []) sound) refl, may)
-  call_back (calls.End range) sound all role may =
-      (OnObject (on.Range over.End), refl, rw (object_back, range_back name (codes "end") the range [] sound) refl, may)
-  call_back (calls.Query range room) sound all role may =
+  call_back (calls.End range None) sound all form role may =
+      (OnObject (on.Range over.End), refl, rw (object_back, range_back name (codes "end") the range [] (and_parts (is_sound_range range) true sound).0) refl, may)
+  call_back (calls.End range (Some n)) sound all form role may =
+      let p = and_parts (is_sound_range range) (is_sound_number (Some n)) sound in
+      (OnObject on.EndOf, rw form refl, rw (object_back, range_back name (codes "end") the range (decimal n ∷ []) p.0, number_back 18446744073709551615 n (omega arith) p.1) refl, may)
+  call_back (calls.Query range room) sound all form role may =
       let p = and_parts (is_sound_range range) (leb room 65536) sound in
       (OnObject on.Query, refl, rw (object_back, range_back name (codes "query") the range (decimal room ∷ []) p.0, number_back 65536 room (omega arith) p.1) refl, may)
-  call_back (calls.Stats false) sound all role may = (OnObject (on.Stats false), refl, rw object_back refl, may)
-  call_back (calls.Stats true) sound all role may = (OnObject (on.Stats true), refl, rw object_back refl, may)
-  call_back (calls.Hint range hints.Always) sound all role may =
+  call_back (calls.Stats false) sound all form role may = (OnObject (on.Stats false), refl, rw object_back refl, may)
+  call_back (calls.Stats true) sound all form role may = (OnObject (on.Stats true), refl, rw object_back refl, may)
+  call_back (calls.Hint range hints.Always) sound all form role may =
       (OnObject (on.Range over.Always), refl, rw (object_back, range_back name (codes "always") the range [] sound) refl, may)
-  call_back (calls.Hint range hints.Cold) sound all role may =
+  call_back (calls.Hint range hints.Cold) sound all form role may =
       (OnObject (on.Range over.Cold), refl, rw (object_back, range_back name (codes "cold") the range [] sound) refl, may)
-  call_back (calls.Pin range Nothing) sound all role may =
+  call_back (calls.Pin range Nothing) sound all form role may =
       (OnObject (on.Range over.Pin), refl, rw (object_back, range_back name (codes "pin") the range [] (and_parts (is_sound_range range) true sound).0) refl, may)
-  call_back (calls.Pin range (Frames count)) sound all role may = absurd (false_last _ sound)
-  call_back (calls.Pin range Scanned) sound all role may = absurd (false_last _ sound)
-  call_back (calls.Unpin range) sound all role may =
+  call_back (calls.Pin range (Frames count)) sound all form role may = absurd (false_last _ sound)
+  call_back (calls.Pin range Scanned) sound all form role may = absurd (false_last _ sound)
+  call_back (calls.Unpin range) sound all form role may =
       (OnObject (on.Range over.Unpin), refl, rw (object_back, range_back name (codes "unpin") the range [] sound) refl, may)
-  call_back (calls.Evict limit max) sound all role may =
+  call_back (calls.Evict limit max) sound all form role may =
       let p = and_parts (leb limit 8) (leb max 65536) sound in
       (OnObject on.Evict, refl, rw (object_back, number_back 8 limit (omega arith) p.0, number_back 65536 max (omega arith) p.1) refl, may)
-  call_back (calls.Borrow page Nothing) sound all role may =
+  call_back (calls.Borrow page Nothing) sound all form role may =
       let p = and_parts (leb page.0 2147483648) true sound in
       (OnObject on.Borrow, refl, rw (object_back, number_back 2147483648 page.0 (omega arith) p.0) refl, may)
-  call_back (calls.Borrow page (Frames count)) sound all role may = absurd (false_last _ sound)
-  call_back (calls.Borrow page Scanned) sound all role may = absurd (false_last _ sound)
-  call_back (calls.Vacate brought) sound all role may = absurd cc
-  call_back (calls.Resize pages) sound all role may = (OnObject on.Resize, refl, rw (object_back, number_back 65536 pages (omega arith) sound) refl, may)
-  call_back (calls.Zero range) sound all role may =
+  call_back (calls.Borrow page (Frames count)) sound all form role may = absurd (false_last _ sound)
+  call_back (calls.Borrow page Scanned) sound all form role may = absurd (false_last _ sound)
+  call_back (calls.Vacate brought) sound all form role may = absurd cc
+  call_back (calls.Resize pages) sound all form role may = (OnObject on.Resize, refl, rw (object_back, number_back 65536 pages (omega arith) sound) refl, may)
+  call_back (calls.Zero range) sound all form role may =
       (OnObject (on.Range over.Zero), refl, rw (object_back, range_back name (codes "zero") the range [] sound) refl, may)
-  call_back calls.Detach sound all role may = (OnObject on.Detach, refl, rw object_back refl, may)
-  call_back calls.Packet sound all role may = (OnObject on.Packet, refl, rw object_back refl, may)
-  call_back (calls.Leave role) sound all is may =
+  call_back calls.Detach sound all form role may = (OnObject on.Detach, refl, rw object_back refl, may)
+  call_back calls.Packet sound all form role may = (OnObject on.Packet, refl, rw object_back refl, may)
+  call_back (calls.Leave role) sound all form is may =
       (OnObject on.Leave, refl, rw (object_back, is) refl, may)
-  call_back (calls.Tell told) sound all role may = absurd cc
+  call_back (calls.Tell told) sound all form role may = absurd cc
 
 -- every action is read from its words
 pub action_again : ReadsItsAction
-action_again declared kind name actions.Go apart sound all role may = (Alone lone.Go, refl, refl, may)
-action_again declared kind name (actions.Read object off len) apart sound all role may =
+action_again declared kind name actions.Go apart sound all form role may = (Alone lone.Go, refl, refl, may)
+action_again declared kind name (actions.Read object off len) apart sound all form role may =
     let p = and_parts (ltb object (length declared.objects) && leb off 8796093022208) (is_within 1 65536 len) sound in
     let q = and_parts (ltb object (length declared.objects)) (leb off 8796093022208) p.0 in
     (OnObject on.Read, refl, rw (object_back declared kind name object apart q.0, number_back 8796093022208 off (omega arith) q.1, number_again 1 65536 len (omega arith) p.1) refl, may)
-action_again declared kind name (actions.Write object off bytes) apart sound all role may =
+action_again declared kind name (actions.Write object off bytes) apart sound all form role may =
     let p = and_parts (ltb object (length declared.objects) && leb off 8796093022208) (is_within 1 65536 (length bytes)) sound in
     let q = and_parts (ltb object (length declared.objects)) (leb off 8796093022208) p.0 in
     let r = and_parts (leb 1 (length bytes)) (leb (length bytes) 65536) p.1 in (
@@ -199,15 +203,15 @@ action_again declared kind name (actions.Write object off bytes) apart sound all
       ) refl,
       may,
     )
-action_again declared kind name (actions.Act object call) apart sound all role may =
+action_again declared kind name (actions.Act object call) apart sound all form role may =
     let p = and_parts (ltb object (length declared.objects)) (is_sound_call call) sound in
-    call_back declared kind name object apart p.0 call p.1 all role may
-action_again declared kind name (actions.Sync object) apart sound all role may = (OnObject on.Sync, refl, rw (object_back declared kind name object apart sound) refl, may)
-action_again declared kind name (actions.Turn object steps) apart sound all role may =
+    call_back declared kind name object apart p.0 call p.1 all form role may
+action_again declared kind name (actions.Sync object) apart sound all form role may = (OnObject on.Sync, refl, rw (object_back declared kind name object apart sound) refl, may)
+action_again declared kind name (actions.Turn object steps) apart sound all form role may =
     let p = and_parts (ltb object (length declared.objects)) (is_within 1 4096 steps) sound in
     (OnObject on.Turn, refl, rw (object_back declared kind name object apart p.0, number_again 1 4096 steps (omega arith) p.1) refl, may)
-action_again declared kind name actions.Age apart sound all role may = (Alone lone.Age, refl, refl, may)
-action_again declared kind name actions.Watch apart sound all role may = (Alone lone.Watch, refl, refl, may)
-action_again declared kind name (actions.Relieve frames) apart sound all role may = (Alone lone.Relieve, refl, rw (number_again 1 16384 frames (omega arith) sound) refl, may)
-action_again declared kind name actions.Recall apart sound all role may = (Alone lone.Recall, refl, refl, may)
-action_again declared kind name actions.Lend apart sound all role may = (Alone lone.Lend, refl, refl, may)
+action_again declared kind name actions.Age apart sound all form role may = (Alone lone.Age, refl, refl, may)
+action_again declared kind name actions.Watch apart sound all form role may = (Alone lone.Watch, refl, refl, may)
+action_again declared kind name (actions.Relieve frames) apart sound all form role may = (Alone lone.Relieve, refl, rw (number_again 1 16384 frames (omega arith) sound) refl, may)
+action_again declared kind name actions.Recall apart sound all form role may = (Alone lone.Recall, refl, refl, may)
+action_again declared kind name actions.Lend apart sound all form role may = (Alone lone.Lend, refl, refl, may)

@@ -9,6 +9,7 @@ use Rattle.std.proofs.lemmas.List.{length-append, length-map, map-append}
 use Rattle.std.proofs.lemmas.List.Folds.{list_any-append}
 use Rattle.std.proofs.lemmas.List.Quantifiers.{position-Some}
 use Rattle.std.proofs.lemmas.List.Sums.{sum_by-cons}
+use Rattle.up_model.specs.declared.entry.Call.TheVariants as calls
 use Rattle.up_words.specs.Names.{is_name}
 use Rattle.up_words.specs.Numbers.{number_between}
 use Rattle.up_words.specs.Steps.{◌>>=◌, or_why, each, lines_from}
@@ -20,15 +21,16 @@ use Rattle.up_words.proofs.Steps.{lines_last}
 use Rattle.up_fields.specs.Text.{line_of, flag_text}
 use Rattle.up_fields.proofs.Values.{other_first, first_digit, number_word, number_again, same_word, flag_word}
 use Rattle.up_script.specs.Actions.{act, actor_in, action_in, may_act, object_of, is_bound, kind_of, has_left, with_leave, bytes_of, has_what_it_needs, with_line}
-use Rattle.up_script.specs.Declarations.{is_first, may_loan, may_level, may_object, nothing_declared, frames_line, loan_line, levels_line, new_name, limit_in, image_in, with_object, object_line, bind_step, may_serve, bound_line, first_numbers, evictor_line, is_trap_word, with_all_counted, is_whole}
-use Rattle.up_script.specs.Fit.{are_unlike, names_of, name_in, images_of, names_its_image, is_fit_actor, may_do, has_its_image, is_fit_line}
+use Rattle.up_script.specs.Declarations.{is_first, may_loan, may_level, may_object, nothing_declared, frames_line, loan_line, levels_line, new_name, limit_in, image_in, with_object, object_line, bind_step, may_serve, bound_line, first_numbers, evictor_line, is_trap_word, says_numbered, with_all_counted, is_whole}
+use Rattle.up_script.specs.Fit.{are_unlike, names_of, name_in, images_of, names_its_image, is_in_version, is_fit_actor, may_do, suits_object, is_fit_line}
 use Rattle.up_script.specs.Laws.{ReadsItsText}
-use Rattle.up_script.specs.Objects.{object_named, actor_named, image_named, is_image, has_image, is_among, counted, with_counts, is_served}
+use Rattle.up_script.specs.Objects.{object_named, actor_named, image_named, is_image, has_image, is_numbered, is_among, counted, with_counts, is_served}
 use Rattle.up_script.specs.Reading.{nothing_played, declaring, stage_step, is_skipped, line_step, last_step, script_in, script_of}
 use Rattle.up_script.specs.Sound.{is_within, is_sound_limit, is_sound_image, is_fair_object, is_sound_object, is_sound_action, is_sound_line, is_sound}
-use Rattle.up_script.specs.Text.{Written, and_line, header_written, frames_words, loan_words, levels_words, and_loan, are_usual, and_levels, stock_written, limit_text, image_text, object_words, and_object, objects_written, kind_text, bound_words, actor_words, and_actor, actors_written, action_words, line_words, and_action, lines_written, object_names, actor_names, script_text}
+use Rattle.up_script.specs.Text.{Written, and_line, header_written, frames_words, loan_words, levels_words, and_loan, are_usual, and_levels, stock_written, limit_text, image_text, mode_words, object_words, and_object, objects_written, kind_text, bound_words, actor_words, and_actor, actors_written, action_words, line_words, and_action, lines_written, object_names, actor_names, script_text}
 use Rattle.up_script.specs.Verbs.{verb_of, says}
-use Rattle.up_script.specs.Whole.{has_bytes, LeavesAs, AllLeave, all_stay, binds_right, fits_in, all_fit, loan_fits, levels_fit, frames_of, stock_in, declared_in, steps_in, HasText}
+use Rattle.up_script.specs.Versions.{is_version, has_modes, object_size, is_mode_word}
+use Rattle.up_script.specs.Whole.{has_bytes, is_spoken_in, LeavesAs, AllLeave, all_stay, binds_right, fits_in, all_fit, loan_fits, levels_fit, frames_of, stock_in, declared_in, steps_in, HasText}
 use Rattle.up_script.specs.declared.declarations.Declared.{Declared}
 use Rattle.up_script.specs.declared.declarations.Last.{Last}
 use Rattle.up_script.specs.declared.declarations.Last.TheVariants as last
@@ -38,6 +40,7 @@ use Rattle.up_script.specs.declared.played.Played.{Played}
 use Rattle.up_script.specs.declared.reading.Stage.{Stage}
 use Rattle.up_script.specs.declared.reading.Stage.TheVariants as stages
 use Rattle.up_script.specs.declared.script.Action.{Action}
+use Rattle.up_script.specs.declared.script.Action.TheVariants as actions
 use Rattle.up_script.specs.declared.script.ActorLine.{ActorLine}
 use Rattle.up_script.specs.declared.script.Kind.{Kind}
 use Rattle.up_script.specs.declared.script.Kind.TheVariants.{User, Pager, Worker, Evictor}
@@ -80,17 +83,17 @@ next_reads text s t words reads past fits good e =
     (ap (λ n. stage_step n s words) here ∙ e)
 
 -- declarations
-abbrev pub decl : Last → Stock → List ObjectLine → List ActorLine → Declared
-decl l stock objects actors = record { last = l; stock = stock; objects = objects; actors = actors }
+abbrev pub decl : ℕ → Last → Stock → List ObjectLine → List ActorLine → Declared
+decl v l stock objects actors = record { version = v; last = l; stock = stock; objects = objects; actors = actors }
 
 abbrev pub stock_with : ℕ → ℕ → ℕ → ℕ → ℕ → ℕ → Stock
 stock_with frames frames_line loan loan_line warn critical = record { frames = frames; frames_line = frames_line; loan = loan; loan_line = loan_line; warn = warn; critical = critical }
 
 -- the text so far is read to these declarations
-pub record Begun (text : Written) (stock : Stock) (objects : List ObjectLine) (may : Last → Bool) : Type 0 where
+pub record Begun (v : ℕ) (text : Written) (stock : Stock) (objects : List ObjectLine) (may : Last → Bool) : Type 0 where
   pub l : Last
   pub is : may l ≡ true
-  pub reads : Reads text (stages.Declaring (decl l stock objects []))
+  pub reads : Reads text (stages.Declaring (decl v l stock objects []))
 
 within_is : (low high n : ℕ) → low ≤ n → n ≤ high → (leb low n && leb n high) ≡ true
 within_is low high n a b = both (leb low n) (leb n high) (le-leb low n a) (le-leb n high b)
@@ -98,12 +101,13 @@ within_is low high n a b = both (leb low n) (leb n high) (le-leb low n a) (le-le
 number_good : (verb : List ℕ) (n : ℕ) → is_word verb ≡ true → n < 2 ^ 64 → list_all is_word (verb ∷ decimal n ∷ []) ≡ true
 number_good verb n v fits = rw (v, number_word n fits) refl
 
-pub frames_reads : (frames line : ℕ) → 1 ≤ frames → frames ≤ 16384 → fits_in header_written line (frames_words frames) ≡ true → Reads (and_line header_written line (frames_words frames)) (stages.Declaring (with_frames line nothing_declared frames))
-frames_reads frames line some few fits =
-    let read : frames_line line nothing_declared (frames_words frames) ≡ Ok (with_frames line nothing_declared frames) = rw (number_again 1 16384 frames (omega arith) (within_is 1 16384 frames some few)) refl in
-    place_reads header_written (stages.Declaring nothing_declared) (stages.Declaring (with_frames line nothing_declared frames)) line (frames_words frames) header_reads refl fits
+pub frames_reads : (v frames line : ℕ) → is_version v ≡ true → 1 ≤ frames → frames ≤ 16384 → fits_in (header_written v) line (frames_words frames) ≡ true → Reads (and_line (header_written v) line (frames_words frames)) (stages.Declaring (with_frames line (nothing_declared v) frames))
+frames_reads v frames line known some few fits =
+    let none = nothing_declared v in
+    let read : frames_line line none (frames_words frames) ≡ Ok (with_frames line none frames) = rw (number_again 1 16384 frames (omega arith) (within_is 1 16384 frames some few)) refl in
+    place_reads (header_written v) (stages.Declaring none) (stages.Declaring (with_frames line none frames)) line (frames_words frames) (header_reads v known) refl fits
     (record { some = omega arith; good = number_good (codes "frames") frames refl (omega (arith, few)); shown = refl })
-    (frames_branch line nothing_declared (frames_words frames) refl refl refl ∙ ap then_declaring read)
+    (frames_branch line none (frames_words frames) refl refl refl ∙ ap then_declaring read)
 
 loan_some : (text : Written) (number loan : ℕ) → ltb 0 loan ≡ true → loan_fits text number loan ≡ fits_in text number (loan_words loan)
 loan_some text number loan e = rw e refl
@@ -114,13 +118,13 @@ loan_none text number loan e = rw e refl
 levels_other : (text : Written) (frames warn critical : ℕ) → are_usual frames warn critical ≡ false → levels_fit text frames warn critical ≡ fits_in text text.next (levels_words warn critical)
 levels_other text frames warn critical e = rw e refl
 
-pub loan_reads : (frames line loan loan_line : ℕ) (text : Written) → loan ≤ 4096 → Reads text (stages.Declaring (with_frames line nothing_declared frames)) → loan_fits text loan_line loan ≡ true
-    → Begun (and_loan text loan_line loan) (stock_with frames line loan loan_line (frames / 4) (frames / 8)) [] may_level
-loan_reads frames line loan number text few reads fits = ⊎_elim some none (cases_Bool (ltb 0 loan))
+pub loan_reads : (v frames line loan loan_line : ℕ) (text : Written) → loan ≤ 4096 → Reads text (stages.Declaring (with_frames line (nothing_declared v) frames)) → loan_fits text loan_line loan ≡ true
+    → Begun v (and_loan text loan_line loan) (stock_with frames line loan loan_line (frames / 4) (frames / 8)) [] may_level
+loan_reads v frames line loan number text few reads fits = ⊎_elim some none (cases_Bool (ltb 0 loan))
   where
-    some : ltb 0 loan ≡ true → Begun (and_loan text number loan) (stock_with frames line loan number (frames / 4) (frames / 8)) [] may_level
+    some : ltb 0 loan ≡ true → Begun v (and_loan text number loan) (stock_with frames line loan number (frames / 4) (frames / 8)) [] may_level
     some e =
-        let d = with_frames line nothing_declared frames in
+        let d = with_frames line (nothing_declared v) frames in
         let lies : (leb 1 loan && leb loan 4096) ≡ true = within_is 1 4096 loan (ltb-true 0 loan e) few in
         let read : loan_line number d (loan_words loan) ≡ Ok (with_loaned number d loan) = rw (number_again 1 4096 loan (omega arith) lies) refl in
         let is : and_loan text number loan ≡ and_line text number (loan_words loan) = rw e refl in
@@ -134,7 +138,7 @@ loan_reads frames line loan number text few reads fits = ⊎_elim some none (cas
               (loan_branch number d (loan_words loan) refl refl refl ∙ ap then_declaring read));
         }
 
-    none : ltb 0 loan ≡ false → Begun (and_loan text number loan) (stock_with frames line loan number (frames / 4) (frames / 8)) [] may_level
+    none : ltb 0 loan ≡ false → Begun v (and_loan text number loan) (stock_with frames line loan number (frames / 4) (frames / 8)) [] may_level
     none e =
         let zero_loan : 0 ≡ loan = omega (arith, ltb-false 0 loan e) in
         let zero_line : 0 ≡ number = sym (eqb-true number 0 (sym (loan_none text number loan e) ∙ fits)) in
@@ -142,8 +146,8 @@ loan_reads frames line loan number text few reads fits = ⊎_elim some none (cas
         record {
           l = last.Frames;
           is = refl;
-          reads = subst (λ (w : Written). Reads w (stages.Declaring (decl last.Frames (stock_with frames line loan number (frames / 4) (frames / 8)) [] []))) (sym is)
-              (subst (λ (s : Stage). Reads text s) (ap₂ (λ a b. stages.Declaring (decl last.Frames (stock_with frames line a b (frames / 4) (frames / 8)) [] [])) zero_loan zero_line) reads);
+          reads = subst (λ (w : Written). Reads w (stages.Declaring (decl v last.Frames (stock_with frames line loan number (frames / 4) (frames / 8)) [] []))) (sym is)
+              (subst (λ (s : Stage). Reads text s) (ap₂ (λ a b. stages.Declaring (decl v last.Frames (stock_with frames line a b (frames / 4) (frames / 8)) [] [])) zero_loan zero_line) reads);
         }
 
 level_object : (l : Last) → may_level l ≡ true → may_object l ≡ true
@@ -162,11 +166,11 @@ object_later last.Levels e = refl
 object_later last.Object e = refl
 object_later last.Actor e = absurd cc
 
-module _ (frames line loan number warn critical : ℕ) (text : Written) (few : frames ≤ 16384) (warned : warn ≤ frames) (lower : critical ≤ warn) (begun : Begun text (stock_with frames line loan number (frames / 4) (frames / 8)) [] may_level) (fits : levels_fit text frames warn critical ≡ true) where
+module _ (v frames line loan number warn critical : ℕ) (text : Written) (few : frames ≤ 16384) (warned : warn ≤ frames) (lower : critical ≤ warn) (begun : Begun v text (stock_with frames line loan number (frames / 4) (frames / 8)) [] may_level) (fits : levels_fit text frames warn critical ≡ true) where
   abbrev pub whole : Stock
   whole = stock_with frames line loan number warn critical
 
-  usual_reads : are_usual frames warn critical ≡ true → Begun (and_levels text frames warn critical) whole [] may_object
+  usual_reads : are_usual frames warn critical ≡ true → Begun v (and_levels text frames warn critical) whole [] may_object
   usual_reads e =
       let p = and_parts (eqb warn (frames / 4)) (eqb critical (frames / 8)) e in
       let w = eqb-true warn (frames / 4) p.0 in
@@ -175,13 +179,13 @@ module _ (frames line loan number warn critical : ℕ) (text : Written) (few : f
       record {
         l = begun.l;
         is = level_object begun.l begun.is;
-        reads = subst (λ (v : Written). Reads v (stages.Declaring (decl begun.l whole [] []))) (sym is)
-            (subst (λ (s : Stage). Reads text s) (ap₂ (λ a b. stages.Declaring (decl begun.l (stock_with frames line loan number a b) [] [])) (sym w) (sym c)) begun.reads);
+        reads = subst (λ (w : Written). Reads w (stages.Declaring (decl v begun.l whole [] []))) (sym is)
+            (subst (λ (s : Stage). Reads text s) (ap₂ (λ a b. stages.Declaring (decl v begun.l (stock_with frames line loan number a b) [] [])) (sym w) (sym c)) begun.reads);
       }
 
-  levels_read : are_usual frames warn critical ≡ false → Begun (and_levels text frames warn critical) whole [] may_object
+  levels_read : are_usual frames warn critical ≡ false → Begun v (and_levels text frames warn critical) whole [] may_object
   levels_read e =
-      let d = decl begun.l (stock_with frames line loan number (frames / 4) (frames / 8)) [] [] in
+      let d = decl v begun.l (stock_with frames line loan number (frames / 4) (frames / 8)) [] [] in
       let words = levels_words warn critical in
       let is : and_levels text frames warn critical ≡ and_line text 0 words = rw e refl in
       let fit : fits_in text text.next words ≡ true = sym (levels_other text frames warn critical e) ∙ fits in
@@ -190,13 +194,13 @@ module _ (frames line loan number warn critical : ℕ) (text : Written) (few : f
       record {
         l = last.Levels;
         is = refl;
-        reads = subst (λ (v : Written). Reads v (stages.Declaring (decl last.Levels whole [] []))) (sym is)
+        reads = subst (λ (w : Written). Reads w (stages.Declaring (decl v last.Levels whole [] []))) (sym is)
             (next_reads text (stages.Declaring d) (stages.Declaring (with_marks d warn critical)) words begun.reads refl fit
             (record { some = omega arith; good = rw (number_word warn (omega (arith, few, warned)), number_word critical (omega (arith, few, warned, lower))) refl; shown = refl })
             (levels_branch text.next d words refl refl begun.is ∙ ap then_declaring read));
       }
 
-  pub stock_reads : Begun (and_levels text frames warn critical) whole [] may_object
+  pub stock_reads : Begun v (and_levels text frames warn critical) whole [] may_object
   stock_reads = ⊎_elim usual_reads levels_read (cases_Bool (are_usual frames warn critical))
 
 -- objects: their users and pagers aren't counted yet
@@ -204,7 +208,7 @@ abbrev pub bare : ObjectLine → ObjectLine
 bare o = record {
   number = o.number;
   name = o.name;
-  birth = record { pages = o.birth.pages; limit = o.birth.limit; trap = o.birth.trap; users = 0; pagers = 0; image = o.birth.image };
+  birth = record { pages = o.birth.pages; limit = o.birth.limit; trap = o.birth.trap; users = 0; pagers = 0; image = o.birth.image; numbered = o.birth.numbered };
   image = o.image;
 }
 
@@ -267,6 +271,33 @@ trap_word : (trap : Bool) → is_trap_word (flag_text (codes "trap") (codes "fre
 trap_word true = refl
 trap_word false = refl
 
+mode_is : (numbered : Bool) → bytes_eq (flag_text (codes "numbered") (codes "ranged") numbered) (codes "numbered") ≡ numbered
+mode_is true = refl
+mode_is false = refl
+
+mode_word : (numbered : Bool) → (bytes_eq (flag_text (codes "numbered") (codes "ranged") numbered) (codes "ranged") || bytes_eq (flag_text (codes "numbered") (codes "ranged") numbered) (codes "numbered")) ≡ true
+mode_word true = refl
+mode_word false = refl
+
+-- the words of an object's line, by its mode
+pub record HasMode (v : ℕ) (o : ObjectLine) : Type 0 where
+  pub numbered : says_numbered v (object_words v o) ≡ o.birth.numbered
+  pub size : eqb (length (object_words v o)) (object_size v) ≡ true
+  pub mode : is_mode_word v (word_at (object_words v o) 6) ≡ true
+  pub good : list_all is_word (mode_words v o.birth.numbered) ≡ true
+
+pub has_mode : (v : ℕ) (o : ObjectLine) → is_in_version v o ≡ true → HasMode v o
+has_mode v o e = by (has_modes v) refl e
+  where
+    by : (b : Bool) → has_modes v ≡ b → (b || not o.birth.numbered) ≡ true → HasMode v o
+    by true q f = record {
+      numbered = rw q (mode_is o.birth.numbered);
+      size = rw q refl;
+      mode = rw q (mode_word o.birth.numbered);
+      good = rw (q, flag_word (codes "numbered") (codes "ranged") o.birth.numbered refl refl) refl;
+    }
+    by false q f = record { numbered = rw q (sym (not-true o.birth.numbered f)); size = rw q refl; mode = rw q refl; good = rw q refl }
+
 image_is : (imaged some : Bool) → cond imaged some (not some) ≡ true → some ≡ imaged
 image_is true some e = e
 image_is false true e = absurd cc
@@ -275,11 +306,11 @@ image_is false false e = refl
 new_again : (d : Declared) (name : List ℕ) → is_name name ≡ true → object_named name d.objects ≡ None → actor_named name d.actors ≡ None → new_name d name ≡ Ok name
 new_again d name is a b = rw (is, a, b) refl
 
-abbrev object_with : Declared → ObjectLine → Bool → Bool → Result Declared Why
-object_with d o trap image = Ok (with_object d (record {
+abbrev object_with : Declared → ObjectLine → Bool → Bool → Bool → Result Declared Why
+object_with d o trap image numbered = Ok (with_object d (record {
   number = o.number;
   name = o.name;
-  birth = record { pages = o.birth.pages; limit = o.birth.limit; trap = trap; users = 0; pagers = 0; image = image };
+  birth = record { pages = o.birth.pages; limit = o.birth.limit; trap = trap; users = 0; pagers = 0; image = image; numbered = numbered };
   image = o.image;
 }))
 
@@ -297,11 +328,13 @@ fair_parts o e =
     record { name = r.0; pages = r.1; limit = q.1; image = p.1 }
 
 object_again : (d : Declared) (o : ObjectLine) (names images : List (List ℕ)) → IsFair o → d.actors ≡ [] → are_unlike bytes_eq (object_names d.objects ++ o.name ∷ names) ≡ true → are_unlike bytes_eq (images_of d.objects ++ (name_in o.image ++ images)) ≡ true
-    → length d.objects < 16 → names_its_image o ≡ true → object_line o.number d (object_words o) ≡ Ok (with_object d (bare o))
-object_again d o names images fair none apart differ few imaged =
+    → length d.objects < 16 → names_its_image o ≡ true → is_in_version d.version o ≡ true → object_line o.number d (object_words d.version o) ≡ Ok (with_object d (bare o))
+object_again d o names images fair none apart differ few imaged within =
     let new = unnamed (λ (x : ObjectLine). bytes_eq x.name o.name) d.objects (sym (any_map (λ w. bytes_eq w o.name) (λ (x : ObjectLine). x.name) d.objects) ∙ unlike_before bytes_eq (object_names d.objects) o.name names apart) in
     let alone : actor_named o.name d.actors ≡ None = ap (λ (xs : List ActorLine). actor_named o.name xs) none in
-    let whole = ap₂ (object_with d o) (trap_is o.birth.trap) (image_is o.birth.image (is_some o.image) imaged) in
+    let m = has_mode d.version o within in
+    let first = ap₂ (λ trap image. object_with d o trap image (says_numbered d.version (object_words d.version o))) (trap_is o.birth.trap) (image_is o.birth.image (is_some o.image) imaged) in
+    let whole = first ∙ ap (object_with d o o.birth.trap o.birth.image) m.numbered in
     rw (
       new_again d o.name fair.name new alone,
       number_back 65536 o.birth.pages (omega arith) fair.pages,
@@ -310,35 +343,37 @@ object_again d o names images fair none apart differ few imaged =
       lt-ltb (length d.objects) 16 few,
     ) whole
 
-object_good : (o : ObjectLine) → IsFair o → AreGood (object_words o)
-object_good o fair = record {
+object_good : (v : ℕ) (o : ObjectLine) → IsFair o → is_in_version v o ≡ true → AreGood (object_words v o)
+object_good v o fair within = record {
   some = omega arith;
-  good = rw (name_word o.name fair.name, up_to o.birth.pages 65536 fair.pages (omega arith), limit_word o.birth.pages o.birth.limit fair.limit, flag_word (codes "trap") (codes "free") o.birth.trap refl refl, image_word o.image fair.image) refl;
+  good = rw (name_word o.name fair.name, up_to o.birth.pages 65536 fair.pages (omega arith), limit_word o.birth.pages o.birth.limit fair.limit, flag_word (codes "trap") (codes "free") o.birth.trap refl refl, image_word o.image fair.image) (has_mode v o within).good;
   shown = refl;
 }
 
-pub objects_read : (stock : Stock) (l : Last) (text : Written) (done os : List ObjectLine) → may_object l ≡ true → Reads text (stages.Declaring (decl l stock done [])) → all_fit (λ object. object.number) object_words text os ≡ true
-    → list_all names_its_image os ≡ true → list_all is_fair_object os ≡ true → are_unlike bytes_eq (object_names done ++ object_names os) ≡ true → are_unlike bytes_eq (images_of done ++ images_of os) ≡ true → length done + length os ≤ 16
-    → Begun (objects_written text os) stock (done ++ map bare os) may_object
+pub objects_read : (v : ℕ) (stock : Stock) (l : Last) (text : Written) (done os : List ObjectLine) → may_object l ≡ true → Reads text (stages.Declaring (decl v l stock done [])) → all_fit (λ object. object.number) (object_words v) text os ≡ true
+    → list_all names_its_image os ≡ true → list_all (is_in_version v) os ≡ true → list_all is_fair_object os ≡ true → are_unlike bytes_eq (object_names done ++ object_names os) ≡ true → are_unlike bytes_eq (images_of done ++ images_of os) ≡ true → length done + length os ≤ 16
+    → Begun v (objects_written v text os) stock (done ++ map bare os) may_object
 unfolding all_fit images_of
-objects_read stock l text done [] may reads fits imaged fair apart differ few =
-    record { l = l; is = may; reads = subst (λ (xs : List ObjectLine). Reads text (stages.Declaring (decl l stock xs []))) (sym (append-nil done)) reads }
-objects_read stock l text done (o ∷ os) may reads fits imaged fair apart differ few =
-    let d = decl l stock done [] in
-    let fit = and_parts (fits_in text o.number (object_words o)) (all_fit (λ (x : ObjectLine). x.number) object_words (and_object text o) os) fits in
+objects_read v stock l text done [] may reads fits imaged modes fair apart differ few =
+    record { l = l; is = may; reads = subst (λ (xs : List ObjectLine). Reads text (stages.Declaring (decl v l stock xs []))) (sym (append-nil done)) reads }
+objects_read v stock l text done (o ∷ os) may reads fits imaged modes fair apart differ few =
+    let d = decl v l stock done [] in
+    let fit = and_parts (fits_in text o.number (object_words v o)) (all_fit (λ (x : ObjectLine). x.number) (object_words v) (and_object v text o) os) fits in
+    let mo = and_parts (is_in_version v o) (list_all (is_in_version v) os) modes in
+    let has = has_mode v o mo.0 in
     let im = and_parts (names_its_image o) (list_all names_its_image os) imaged in
     let fa = and_parts (is_fair_object o) (list_all is_fair_object os) fair in
     let one = fair_parts o fa.0 in
-    let read = object_again d o (object_names os) (images_of os) one refl apart differ (omega (arith, few)) im.0 in
-    let step = place_reads text (stages.Declaring d) (stages.Declaring (with_object d (bare o))) o.number (object_words o) reads refl fit.0 (object_good o one)
-    (object_branch o.number d (object_words o) refl refl (trap_word o.birth.trap) may ∙ ap then_declaring read) in
+    let read = object_again d o (object_names os) (images_of os) one refl apart differ (omega (arith, few)) im.0 mo.0 in
+    let step = place_reads text (stages.Declaring d) (stages.Declaring (with_object d (bare o))) o.number (object_words v o) reads refl fit.0 (object_good v o one mo.0)
+    (object_branch o.number d (object_words v o) refl has.size (trap_word o.birth.trap) has.mode may ∙ ap then_declaring read) in
     let more = done ++ bare o ∷ [] in
     let names : object_names more ++ object_names os ≡ object_names done ++ object_names (o ∷ os) =
     ap (λ (ns : List (List ℕ)). ns ++ object_names os) (map-append (λ (x : ObjectLine). x.name) done (bare o ∷ [])) ∙ append_assoc (object_names done) (o.name ∷ []) (object_names os) in
     let images : images_of more ++ images_of os ≡ images_of done ++ (name_in o.image ++ images_of os) =
     ap (λ (ns : List (List ℕ)). ns ++ images_of os) (images_push done (bare o)) ∙ append_assoc (images_of done) (name_in o.image) (images_of os) in
-    let rest = objects_read stock last.Object (and_object text o) more os refl step fit.1 im.1 fa.1 (ap (are_unlike bytes_eq) names ∙ apart) (ap (are_unlike bytes_eq) images ∙ differ) (omega (arith, few, length-append done (bare o ∷ []))) in
-    subst (λ (xs : List ObjectLine). Begun (objects_written (and_object text o) os) stock xs may_object) (append_assoc done (bare o ∷ []) (map bare os)) rest
+    let rest = objects_read v stock last.Object (and_object v text o) more os refl step fit.1 im.1 mo.1 fa.1 (ap (are_unlike bytes_eq) names ∙ apart) (ap (are_unlike bytes_eq) images ∙ differ) (omega (arith, few, length-append done (bare o ∷ []))) in
+    subst (λ (xs : List ObjectLine). Begun v (objects_written v (and_object v text o) os) stock xs may_object) (append_assoc done (bare o ∷ []) (map bare os)) rest
 
 -- actors
 pub bare_names : (os : List ObjectLine) → object_names (map bare os) ≡ object_names os
@@ -433,19 +468,19 @@ actor_good names actor all is inside = record {
     shown_of Evictor more = refl
 
 -- the text so far is read to these declarations, of which an actor may be the last
-pub record Acted (text : Written) (stock : Stock) (objects : List ObjectLine) (actors : List ActorLine) : Type 0 where
+pub record Acted (v : ℕ) (text : Written) (stock : Stock) (objects : List ObjectLine) (actors : List ActorLine) : Type 0 where
   pub l : Last
   pub is : is_first l ≡ false
-  pub reads : Reads text (stages.Declaring (decl l stock objects actors))
+  pub reads : Reads text (stages.Declaring (decl v l stock objects actors))
 
-pub actors_read : (stock : Stock) (l : Last) (objects : List ObjectLine) (text : Written) (done more_actors : List ActorLine) → is_first l ≡ false → Reads text (stages.Declaring (decl l stock objects done)) → all_fit (λ actor. actor.number) (actor_words (object_names objects)) text more_actors ≡ true
+pub actors_read : (v : ℕ) (stock : Stock) (l : Last) (objects : List ObjectLine) (text : Written) (done more_actors : List ActorLine) → is_first l ≡ false → Reads text (stages.Declaring (decl v l stock objects done)) → all_fit (λ actor. actor.number) (actor_words (object_names objects)) text more_actors ≡ true
     → list_all is_name (object_names objects) ≡ true → are_unlike bytes_eq (object_names objects) ≡ true → list_all (is_fit_actor objects) more_actors ≡ true → list_all (λ actor. binds_right actor.kind (length objects) actor.objects) more_actors ≡ true
-    → are_unlike bytes_eq ((object_names objects ++ actor_names done) ++ actor_names more_actors) ≡ true → length done + length more_actors ≤ 64 → Acted (actors_written (object_names objects) text more_actors) stock objects (done ++ more_actors)
+    → are_unlike bytes_eq ((object_names objects ++ actor_names done) ++ actor_names more_actors) ≡ true → length done + length more_actors ≤ 64 → Acted v (actors_written (object_names objects) text more_actors) stock objects (done ++ more_actors)
 unfolding all_fit
-actors_read stock l objects text done [] later reads fits named apart fit right differ few =
-    record { l = l; is = later; reads = subst (λ (xs : List ActorLine). Reads text (stages.Declaring (decl l stock objects xs))) (sym (append-nil done)) reads }
-actors_read stock l objects text done (a ∷ more_actors) later reads fits named apart fit right differ few =
-    let d = decl l stock objects done in
+actors_read v stock l objects text done [] later reads fits named apart fit right differ few =
+    record { l = l; is = later; reads = subst (λ (xs : List ActorLine). Reads text (stages.Declaring (decl v l stock objects xs))) (sym (append-nil done)) reads }
+actors_read v stock l objects text done (a ∷ more_actors) later reads fits named apart fit right differ few =
+    let d = decl v l stock objects done in
     let names = object_names objects in
     let words = actor_words names a in
     let place = and_parts (fits_in text a.number words) (all_fit (λ (x : ActorLine). x.number) (actor_words names) (and_actor names text a) more_actors) fits in
@@ -464,27 +499,47 @@ actors_read stock l objects text done (a ∷ more_actors) later reads fits named
     let names_more : (names ++ actor_names more) ++ actor_names more_actors ≡ (names ++ actor_names done) ++ actor_names (a ∷ more_actors) =
     ap (λ (ns : List (List ℕ)). (names ++ ns) ++ actor_names more_actors) (map-append (λ (x : ActorLine). x.name) done (a ∷ []))
     ∙ ap (λ (ns : List (List ℕ)). ns ++ actor_names more_actors) (sym (append_assoc names (actor_names done) (a.name ∷ []))) ∙ append_assoc (names ++ actor_names done) (a.name ∷ []) (actor_names more_actors) in
-    let rest = actors_read stock last.Actor objects (and_actor names text a) more more_actors refl step place.1 named apart f.1 r.1 (ap (are_unlike bytes_eq) names_more ∙ differ) (omega (arith, few, length-append done (a ∷ []))) in
-    subst (λ (xs : List ActorLine). Acted (actors_written names (and_actor names text a) more_actors) stock objects xs) (append_assoc done (a ∷ []) more_actors) rest
+    let rest = actors_read v stock last.Actor objects (and_actor names text a) more more_actors refl step place.1 named apart f.1 r.1 (ap (are_unlike bytes_eq) names_more ∙ differ) (omega (arith, few, length-append done (a ∷ []))) in
+    subst (λ (xs : List ActorLine). Acted v (actors_written names (and_actor names text a) more_actors) stock objects xs) (append_assoc done (a ∷ []) more_actors) rest
 
 -- lines of actors
 abbrev pub played : List Line → ℕ → List LeftObject → Played
 played lines room left = record { lines = lines; room = room; left = left }
 
 -- a line whose verb, actor and action are found, and that may be done
-act_is : (d : Declared) (n : ℕ) (p : Played) (words : List (List ℕ)) (verb : Verb) (actor : ℕ) (action : Action) → verb_of words ≡ Some verb → actor_in d (word_at words 0) ≡ Ok actor → action_in d (kind_of (slice_get d.actors actor)) verb words ≡ Ok action
+act_is : (d : Declared) (n : ℕ) (p : Played) (words : List (List ℕ)) (verb : Verb) (actor : ℕ) (action : Action) → verb_of d.version words ≡ Some verb → actor_in d (word_at words 0) ≡ Ok actor → action_in d (kind_of (slice_get d.actors actor)) verb words ≡ Ok action
     → may_act d actor verb action ≡ true → has_left p.left actor (object_of action) ≡ false → leb (bytes_of action) p.room ≡ true → act d n p words ≡ Ok (with_line p n actor action)
 act_is d n p words verb actor action found who read may stays room = rw (found, who, read, may, stays, room) refl
 
-line_again : (d : Declared) (p : Played) (line : Line) → are_unlike bytes_eq (object_names d.objects) ≡ true → are_unlike bytes_eq (actor_names d.actors) ≡ true → is_sound_line (length d.objects) (length d.actors) line ≡ true
+-- an end of a numbered object names its begin, and objects are numbered only where they have a mode
+numbered_in : (v : ℕ) (objects : List ObjectLine) (object : ℕ) → list_all (is_in_version v) objects ≡ true → is_numbered objects object ≡ true → has_modes v ≡ true
+numbered_in v [] object all e = absurd cc
+numbered_in v (o ∷ os) zero all e = by (has_modes v) o.birth.numbered (and_parts (is_in_version v o) (list_all (is_in_version v) os) all).0 e
+  where
+    by : (modes numbered : Bool) → (modes || not numbered) ≡ true → numbered ≡ true → modes ≡ true
+    by true numbered f g = refl
+    by false true f g = absurd cc
+    by false false f g = absurd cc
+numbered_in v (o ∷ os) (suc object) all e = numbered_in v os object (and_parts (is_in_version v o) (list_all (is_in_version v) os) all).1 e
+
+some_suits : (numbered : Bool) → cond numbered true false ≡ true → numbered ≡ true
+some_suits true e = refl
+some_suits false e = absurd cc
+
+spoken_of : (v : ℕ) (objects : List ObjectLine) (action : Action) → list_all (is_in_version v) objects ≡ true → suits_object objects action ≡ true → is_spoken_in v action ≡ true
+spoken_of v objects (actions.Act object (calls.End range (Some n))) all e = numbered_in v objects object all (some_suits (is_numbered objects object) e)
+spoken_of v objects (actions.Act object (calls.End range None)) all e = refl
+spoken_of v objects _ all e = refl
+
+line_again : (d : Declared) (p : Played) (line : Line) → list_all (is_in_version d.version) d.objects ≡ true → are_unlike bytes_eq (object_names d.objects) ≡ true → are_unlike bytes_eq (actor_names d.actors) ≡ true → is_sound_line (length d.objects) (length d.actors) line ≡ true
     → has_bytes line.action ≡ true → LeavesAs (kind_of (slice_get d.actors line.actor)) line.action → is_fit_line d.objects d.actors line ≡ true → has_left p.left line.actor (object_of line.action) ≡ false → bytes_of line.action ≤ p.room
     → act d line.number p (line_words (object_names d.objects) (actor_names d.actors) line) ≡ Ok (with_line p line.number line.actor line.action)
-line_again d p line apart differ sound bytes leaves fit stays room =
+line_again d p line modes apart differ sound bytes leaves fit stays room =
     let who = slice_get d.actors line.actor in
     let s = and_parts (ltb line.actor (length d.actors)) (is_sound_action (length d.objects) line.action) sound in
-    let f = and_parts (may_do (kind_of who) line.action) (is_bound who (object_of line.action) && has_its_image d.objects line.action) fit in
-    let g = and_parts (is_bound who (object_of line.action)) (has_its_image d.objects line.action) f.1 in
-    let verb = action_again d (kind_of who) (word_at (actor_names d.actors) line.actor) line.action apart s.1 bytes leaves f.0 in
+    let f = and_parts (may_do (kind_of who) line.action) (is_bound who (object_of line.action) && suits_object d.objects line.action) fit in
+    let g = and_parts (is_bound who (object_of line.action)) (suits_object d.objects line.action) f.1 in
+    let verb = action_again d (kind_of who) (word_at (actor_names d.actors) line.actor) line.action apart s.1 bytes (spoken_of d.version d.objects line.action modes g.1) leaves f.0 in
     let actor : actor_in d (word_at (actor_names d.actors) line.actor) ≡ Ok line.actor =
     ap (or_why why.Name) (found_at (λ (a : ActorLine). a.name) d.actors line.actor differ (ltb-true line.actor (length d.actors) s.0)) in
     let needs : has_what_it_needs d line.action ≡ true = same_needs d line.action ∙ g.1 in
@@ -514,14 +569,14 @@ pub record Done (d : Declared) (text : Written) (lines : List Line) : Type 0 whe
 abbrev pub bytes_in : Line → ℕ
 bytes_in line = bytes_of line.action
 
-pub lines_read : (d : Declared) (text : Written) (done : List Line) (room : ℕ) (left : List LeftObject) (ls : List Line) → Reads text (stages.Acting d (played done room left))
+pub lines_read : (d : Declared) (text : Written) (done : List Line) (room : ℕ) (left : List LeftObject) (ls : List Line) → list_all (is_in_version d.version) d.objects ≡ true → Reads text (stages.Acting d (played done room left))
     → all_fit (λ line. line.number) (line_words (object_names d.objects) (actor_names d.actors)) text ls ≡ true → list_all is_name (object_names d.objects) ≡ true → list_all is_name (actor_names d.actors) ≡ true
     → are_unlike bytes_eq (object_names d.objects) ≡ true → are_unlike bytes_eq (actor_names d.actors) ≡ true → list_all (is_sound_line (length d.objects) (length d.actors)) ls ≡ true → list_all (λ line. has_bytes line.action) ls ≡ true
     → AllLeave d.actors ls → list_all (is_fit_line d.objects d.actors) ls ≡ true → all_stay left ls ≡ true → sum_by bytes_in ls ≤ room → Done d (lines_written (object_names d.objects) (actor_names d.actors) text ls) (done ++ ls)
 unfolding all_fit AllLeave all_stay
-lines_read d text done room left [] reads fits named called apart differ sound bytes leaves fit stays few =
+lines_read d text done room left [] modes reads fits named called apart differ sound bytes leaves fit stays few =
     record { room = room; left = left; reads = subst (λ (xs : List Line). Reads text (stages.Acting d (played xs room left))) (sym (append-nil done)) reads }
-lines_read d text done room left (line ∷ ls) reads fits named called apart differ sound bytes leaves fit stays few =
+lines_read d text done room left (line ∷ ls) modes reads fits named called apart differ sound bytes leaves fit stays few =
     let objects = object_names d.objects in
     let actors = actor_names d.actors in
     let words = line_words objects actors line in
@@ -532,11 +587,11 @@ lines_read d text done room left (line ∷ ls) reads fits named called apart dif
     let f = and_parts (is_fit_line d.objects d.actors line) (list_all (is_fit_line d.objects d.actors) ls) fit in
     let st = and_parts (not (has_left left line.actor (object_of line.action))) (all_stay (with_leave left line.actor line.action) ls) stays in
     let sum = sum_by-cons bytes_in line ls in
-    let read = line_again d p line apart differ s.0 b.0 leaves.0 f.0 (not-true (has_left left line.actor (object_of line.action)) st.0) (omega (arith, few, sum)) in
+    let read = line_again d p line modes apart differ s.0 b.0 leaves.0 f.0 (not-true (has_left left line.actor (object_of line.action)) st.0) (omega (arith, few, sum)) in
     let long_objects : length objects ≡ length d.objects = length-map d.objects (λ (x : ObjectLine). x.name) in
     let long_actors : length actors ≡ length d.actors = length-map d.actors (λ (x : ActorLine). x.name) in
     let sound_words : is_sound_line (length objects) (length actors) line ≡ true = ap₂ (λ a b. is_sound_line a b line) long_objects long_actors ∙ s.0 in
     let step = place_reads text (stages.Acting d p) (stages.Acting d (with_line p line.number line.actor line.action)) line.number words reads refl place.0 (line_good objects actors line named called sound_words b.0)
     (ap (λ (r : Result Played Why). r >>= λ more. ok_stage (stages.Acting d more)) read) in
-    let rest = lines_read d (and_action objects actors text line) (done ++ line ∷ []) (room - bytes_of line.action) (with_leave left line.actor line.action) ls step place.1 named called apart differ s.1 b.1 leaves.1 f.1 st.1 (omega (arith, few, sum)) in
+    let rest = lines_read d (and_action objects actors text line) (done ++ line ∷ []) (room - bytes_of line.action) (with_leave left line.actor line.action) ls modes step place.1 named called apart differ s.1 b.1 leaves.1 f.1 st.1 (omega (arith, few, sum)) in
     subst (λ (xs : List Line). Done d (lines_written objects actors (and_action objects actors text line) ls) xs) (append_assoc done (line ∷ []) ls) rest

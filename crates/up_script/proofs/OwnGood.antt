@@ -17,8 +17,8 @@ use Rattle.up_fields.specs.Limits.{all_tickets}
 use Rattle.up_fields.specs.Text.{flag_text, code_text}
 use Rattle.up_fields.proofs.Rows.{bytes_word}
 use Rattle.up_fields.proofs.Values.{number_word, make_word, flag_word, code_word}
-use Rattle.up_script.specs.Sound.{is_within, is_sound_range, brings_nothing, is_sound_call, is_sound_action, is_sound_limit, is_sound_image}
-use Rattle.up_script.specs.Text.{limit_text, image_text, kind_text, bound_words, call_words, action_words}
+use Rattle.up_script.specs.Sound.{is_within, is_sound_range, is_sound_number, brings_nothing, is_sound_call, is_sound_action, is_sound_limit, is_sound_image}
+use Rattle.up_script.specs.Text.{limit_text, image_text, kind_text, bound_words, number_words, call_words, action_words}
 use Rattle.up_script.specs.Whole.{has_bytes}
 use Rattle.up_script.specs.declared.script.Action.{Action}
 use Rattle.up_script.specs.declared.script.Action.TheVariants as actions
@@ -118,6 +118,10 @@ over_good verb object range more v o sound all = rw (v, o, first_word range soun
 last_good : (word : List ℕ) → is_word word ≡ true → list_all is_word (word ∷ []) ≡ true
 last_good word e = rw e refl
 
+number_good : (of : Option ℕ) → is_sound_number of ≡ true → list_all is_word (number_words of) ≡ true
+number_good None e = refl
+number_good (Some n) e = last_good (decimal n) (up_to n 18446744073709551615 e (omega arith))
+
 call_good : (object : List ℕ) (call : Call) → is_word object ≡ true → is_sound_call call ≡ true → has_bytes (actions.Act 0 call) ≡ true → list_all is_word (call_words object call) ≡ true
 call_good object (calls.Read piece last brought) o sound all = absurd cc
 call_good object (calls.Write off bytes last brought) o sound all = absurd cc
@@ -134,7 +138,9 @@ call_good object (calls.Supply range bytes brought) o sound all =
 call_good object (calls.Fail range code) o sound all = over_good (codes "fail") object range (code_text code ∷ []) refl o sound (last_good (code_text code) (code_word code))
 call_good object (calls.Dirty range brought) o sound all = over_good (codes "dirty") object range ([]) refl o (and_parts (is_sound_range range) (brings_nothing brought) sound).0 refl
 call_good object (calls.Begin range zeros) o sound all = over_good (codes "begin") object range (flag_text (codes "zero") (codes "any") zeros ∷ []) refl o sound (last_good (flag_text (codes "zero") (codes "any") zeros) (flag_word (codes "zero") (codes "any") zeros refl refl))
-call_good object (calls.End range) o sound all = over_good (codes "end") object range ([]) refl o sound refl
+call_good object (calls.End range of) o sound all =
+    let p = and_parts (is_sound_range range) (is_sound_number of) sound in
+    over_good (codes "end") object range (number_words of) refl o p.0 (number_good of p.1)
 call_good object (calls.Query range room) o sound all =
     let p = and_parts (is_sound_range range) (leb room 65536) sound in
     over_good (codes "query") object range (decimal room ∷ []) refl o p.0 (last_good (decimal room) (up_to room 65536 p.1 (omega arith)))
@@ -163,7 +169,7 @@ call_bytes_good object (calls.Retry ticket brought) e = e
 call_bytes_good object (calls.Fail range code) e = e
 call_bytes_good object (calls.Dirty range brought) e = e
 call_bytes_good object (calls.Begin range zeros) e = e
-call_bytes_good object (calls.End range) e = e
+call_bytes_good object (calls.End range of) e = e
 call_bytes_good object (calls.Query range room) e = e
 call_bytes_good object (calls.Stats reset) e = e
 call_bytes_good object (calls.Hint range kind) e = e

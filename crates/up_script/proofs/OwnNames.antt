@@ -16,9 +16,10 @@ use Rattle.up_words.proofs.Decimals.{then_ok, ok_is}
 use Rattle.up_fields.specs.Text.{flag_text}
 use Rattle.up_fields.proofs.Values.{bind_ok, either, same_word, number_takes}
 use Rattle.up_fields.proofs.Rows.{two, three}
-use Rattle.up_script.specs.Declarations.{frames_line, loan_line, levels_line, new_name, limit_in, image_in, with_loan, with_levels, with_object, object_line, object_in, bind_step, may_serve, with_actor, bound_line, first_numbers, evictor_line, is_trap_word}
+use Rattle.up_script.specs.Declarations.{frames_line, loan_line, levels_line, new_name, limit_in, image_in, with_loan, with_levels, with_object, object_line, object_in, bind_step, may_serve, with_actor, bound_line, first_numbers, evictor_line, is_trap_word, says_numbered, says_object}
 use Rattle.up_script.specs.Objects.{object_named, actor_named, image_named, is_among}
-use Rattle.up_script.specs.Text.{frames_words, loan_words, levels_words, limit_text, image_text, object_words, bound_words, actor_words, object_names, kind_text}
+use Rattle.up_script.specs.Text.{frames_words, loan_words, levels_words, limit_text, image_text, mode_words, object_words, bound_words, actor_words, object_names, kind_text}
+use Rattle.up_script.specs.Versions.{has_modes, object_size, is_mode_word}
 use Rattle.up_script.specs.declared.declarations.Declared.{Declared}
 use Rattle.up_script.specs.declared.declarations.Last.TheVariants as last
 use Rattle.up_script.specs.declared.script.ActorLine.{ActorLine}
@@ -26,11 +27,12 @@ use Rattle.up_script.specs.declared.script.Kind.{Kind}
 use Rattle.up_script.specs.declared.script.Kind.TheVariants.{User, Pager, Worker, Evictor}
 use Rattle.up_script.specs.declared.script.ObjectLine.{ObjectLine}
 use Rattle.up_script.proofs.Fitting.{number_within}
-use Rattle.up_script.proofs.OwnWords.{whole_two, whole_three, whole_six, six, object_takes}
+use Rattle.up_script.proofs.OwnWords.{whole_two, whole_three, whole_six, whole_seven, six_and, object_takes}
 
 -- the declarations after the line of the frames
 abbrev pub with_frames : ℕ → Declared → ℕ → Declared
 with_frames line declared frames = record {
+  version = declared.version;
   last = last.Frames;
   stock = record { frames = frames; frames_line = line; loan = 0; loan_line = 0; warn = frames / 4; critical = frames / 8 };
   objects = declared.objects;
@@ -45,7 +47,7 @@ frames_take line declared t words w n e =
 
 -- the declarations after the line of the loaned frames
 abbrev pub with_loaned : ℕ → Declared → ℕ → Declared
-with_loaned line declared loan = record { last = last.Loan; stock = with_loan declared.stock line loan; objects = declared.objects; actors = declared.actors }
+with_loaned line declared loan = record { version = declared.version; last = last.Loan; stock = with_loan declared.stock line loan; objects = declared.objects; actors = declared.actors }
 
 pub loan_takes : (line : ℕ) (declared t : Declared) (words : List (List ℕ)) → word_at words 0 ≡ codes "loan" → length words ≡ 2 → loan_line line declared words ≡ Ok t
     → (loan : ℕ) × (t ≡ with_loaned line declared loan) × (words ≡ loan_words loan) × (0 < loan)
@@ -56,7 +58,7 @@ loan_takes line declared t words w n e =
 
 -- the declarations after the line of the marks
 abbrev pub with_marks : Declared → ℕ → ℕ → Declared
-with_marks declared warn critical = record { last = last.Levels; stock = with_levels declared.stock warn critical; objects = declared.objects; actors = declared.actors }
+with_marks declared warn critical = record { version = declared.version; last = last.Levels; stock = with_levels declared.stock warn critical; objects = declared.objects; actors = declared.actors }
 
 pub levels_take : (declared t : Declared) (words : List (List ℕ)) → declared.stock.frames ≤ 16384 → word_at words 0 ≡ codes "levels" → length words ≡ 3 → levels_line declared words ≡ Ok t
     → (warn : ℕ) × (critical : ℕ) × (t ≡ with_marks declared warn critical) × (words ≡ levels_words warn critical)
@@ -107,9 +109,29 @@ trap_takes word e = by (bytes_eq word (codes "trap")) refl e
     by true q f = same_word word (codes "trap") q
     by false q f = same_word word (codes "free") f
 
-pub object_take : (line : ℕ) (declared t : Declared) (words : List (List ℕ)) → word_at words 0 ≡ codes "object" → length words ≡ 6 → is_trap_word (word_at words 4) ≡ true → object_line line declared words ≡ Ok t
-    → (object : ObjectLine) × (t ≡ with_object declared object) × (words ≡ object_words object) × (object.number ≡ line)
-object_take line declared t words w n trap e =
+mode_takes : (word : List ℕ) → (bytes_eq word (codes "ranged") || bytes_eq word (codes "numbered")) ≡ true → word ≡ flag_text (codes "numbered") (codes "ranged") (bytes_eq word (codes "numbered"))
+mode_takes word e = by (bytes_eq word (codes "ranged")) (bytes_eq word (codes "numbered")) refl refl e
+  where
+    by : (a b : Bool) → bytes_eq word (codes "ranged") ≡ a → bytes_eq word (codes "numbered") ≡ b → (a || b) ≡ true → word ≡ flag_text (codes "numbered") (codes "ranged") b
+    by a true p q f = same_word word (codes "numbered") q
+    by true false p q f = same_word word (codes "ranged") p
+    by false false p q f = absurd cc
+
+-- the words of an object's line, with its mode where objects have one
+object_whole : (version : ℕ) (words : List (List ℕ)) → length words ≡ object_size version → is_mode_word version (word_at words 6) ≡ true
+    → words ≡ word_at words 0 ∷ word_at words 1 ∷ word_at words 2 ∷ word_at words 3 ∷ word_at words 4 ∷ word_at words 5 ∷ mode_words version (says_numbered version words)
+object_whole version words n mode = by (has_modes version) n mode
+  where
+    by : (b : Bool) → length words ≡ cond b 7 6 → cond b (bytes_eq (word_at words 6) (codes "ranged") || bytes_eq (word_at words 6) (codes "numbered")) true ≡ true
+        → words ≡ word_at words 0 ∷ word_at words 1 ∷ word_at words 2 ∷ word_at words 3 ∷ word_at words 4 ∷ word_at words 5 ∷ cond b (flag_text (codes "numbered") (codes "ranged") (b && bytes_eq (word_at words 6) (codes "numbered")) ∷ []) []
+    by true n mode =
+        let front : List ℕ → List (List ℕ) = λ w. word_at words 0 ∷ word_at words 1 ∷ word_at words 2 ∷ word_at words 3 ∷ word_at words 4 ∷ word_at words 5 ∷ w ∷ [] in
+        whole_seven words n ∙ ap front (mode_takes (word_at words 6) mode)
+    by false n mode = whole_six words n
+
+pub object_take : (line : ℕ) (declared t : Declared) (words : List (List ℕ)) → word_at words 0 ≡ codes "object" → length words ≡ object_size declared.version → is_trap_word (word_at words 4) ≡ true → is_mode_word declared.version (word_at words 6) ≡ true → object_line line declared words ≡ Ok t
+    → (object : ObjectLine) × (t ≡ with_object declared object) × (words ≡ object_words declared.version object) × (object.number ≡ line)
+object_take line declared t words w n trap mode e =
     let name = bind_ok (new_name declared (word_at words 1)) _ t e in
     let pages = bind_ok (number_between 0 65536 (word_at words 2)) _ t name.2 in
     let limit = bind_ok (limit_in pages.0 (word_at words 3)) _ t pages.2 in
@@ -118,12 +140,20 @@ object_take line declared t words w n trap e =
     let made : ObjectLine = record {
       number = line;
       name = name.0;
-      birth = record { pages = pages.0; limit = limit.0; trap = word_is words 4 (codes "trap"); users = 0; pagers = 0; image = is_some image.0 };
+      birth = record {
+        pages = pages.0;
+        limit = limit.0;
+        trap = word_is words 4 (codes "trap");
+        users = 0;
+        pagers = 0;
+        image = is_some image.0;
+        numbered = says_numbered declared.version words;
+      };
       image = image.0;
     } in (
       made,
       sym (ok_is (with_object declared made) t few.1),
-      whole_six words n ∙ six w (name_is declared (word_at words 1) name.0 name.1) (number_takes 0 65536 pages.0 (word_at words 2) (omega arith) pages.1) (limit_takes pages.0 (word_at words 3) limit.0 limit.1) (trap_takes (word_at words 4) trap) (image_takes declared (word_at words 5) image.0 image.1),
+      object_whole declared.version words n mode ∙ six_and (mode_words declared.version (says_numbered declared.version words)) w (name_is declared (word_at words 1) name.0 name.1) (number_takes 0 65536 pages.0 (word_at words 2) (omega arith) pages.1) (limit_takes pages.0 (word_at words 3) limit.0 limit.1) (trap_takes (word_at words 4) trap) (image_takes declared (word_at words 5) image.0 image.1),
       refl,
     )
 
@@ -145,7 +175,7 @@ bind_takes declared bound all (word ∷ words) e =
 
 -- one actor more
 abbrev pub with_one : Declared → ActorLine → Declared
-with_one declared actor = record { last = last.Actor; stock = declared.stock; objects = declared.objects; actors = declared.actors ++ actor ∷ [] }
+with_one declared actor = record { version = declared.version; last = last.Actor; stock = declared.stock; objects = declared.objects; actors = declared.actors ++ actor ∷ [] }
 
 front_words : (words : List (List ℕ)) → 2 ≤ length words → words ≡ word_at words 0 ∷ word_at words 1 ∷ drop 2 words
 front_words [] e = absurd (omega arith)

@@ -19,12 +19,13 @@ use Rattle.up_fields.proofs.Values.{bind_ok, found_ok, either, same_word}
 use Rattle.up_fields.proofs.Rows.{one}
 use Rattle.up_fields.proofs.Sentences.{words_take}
 use Rattle.up_script.specs.Actions.{act, actor_in, action_in, object_of, kind_of, may_act, has_left, bytes_of, with_line}
-use Rattle.up_script.specs.Declarations.{is_first, may_loan, may_level, may_object, nothing_declared, frames_line, loan_line, levels_line, with_object, object_line, bound_line, evictor_line, binds, actor_line, is_trap_word, declaration_line, with_all_counted, is_whole}
+use Rattle.up_script.specs.Declarations.{is_first, may_loan, may_level, may_object, nothing_declared, frames_line, loan_line, levels_line, with_object, object_line, bound_line, evictor_line, binds, actor_line, is_trap_word, says_object, declaration_line, with_all_counted, is_whole}
 use Rattle.up_script.specs.Laws.{ReadsItsOwnText}
 use Rattle.up_script.specs.Objects.{counted, with_counts, is_served, actor_named}
 use Rattle.up_script.specs.Reading.{nothing_played, declaring, stage_step, is_skipped, content, line_step, script_in, ended, last_step, script_of}
 use Rattle.up_script.specs.Text.{Written, and_line, header_written, frames_words, loan_words, and_loan, are_usual, and_levels, levels_words, stock_written, object_words, and_object, objects_written, actor_words, and_actor, actors_written, action_words, line_words, and_action, lines_written, object_names, actor_names, declared_written, acted_written, script_text, kind_text}
 use Rattle.up_script.specs.Verbs.{verb_of}
+use Rattle.up_script.specs.Versions.{is_version, has_modes, first_line, object_size, is_mode_word, version_in}
 use Rattle.up_script.specs.declared.declarations.Declared.{Declared}
 use Rattle.up_script.specs.declared.declarations.Last.{Last}
 use Rattle.up_script.specs.declared.declarations.Last.TheVariants as last
@@ -38,26 +39,27 @@ use Rattle.up_script.specs.declared.script.Kind.TheVariants.{User, Pager, Worker
 use Rattle.up_script.specs.declared.script.Line.{Line}
 use Rattle.up_script.specs.declared.script.ObjectLine.{ObjectLine}
 use Rattle.up_script.specs.declared.script.Script.{Script}
+use Rattle.up_script.proofs.FirstLine.{says as says_version}
 use Rattle.up_script.proofs.Fitting.{counted_from, count_steps, counted_names, Declares, Keeps, fits_frames, line_keeps, nothing_declares, ok_line, bind_line, no_word, too_long}
 use Rattle.up_script.proofs.OwnNames.{with_frames, frames_take, with_loaned, loan_takes, with_marks, levels_take, object_take, with_one, Gave, names_objects, bound_take, evictor_takes}
 use Rattle.up_script.proofs.OwnWords.{whole_two, shape_of, named, why_ok, action_takes}
 use Rattle.up_script.proofs.Spelling.{Rest, Reads, is_past, AreSpoken, add_line, header_reads}
 
 -- the text of what was read so far
-abbrev stock_of : Stock → Written
-stock_of stock = stock_written stock.frames stock.frames_line stock.loan stock.loan_line stock.warn stock.critical
+abbrev stock_of : ℕ → Stock → Written
+stock_of version stock = stock_written version stock.frames stock.frames_line stock.loan stock.loan_line stock.warn stock.critical
 
 abbrev of_declared : Declared → Written
-of_declared d = declared_written (stock_of d.stock) d.objects d.actors
+of_declared d = declared_written d.version (stock_of d.version d.stock) d.objects d.actors
 
 abbrev text_of : Stage → Written
 text_of stages.Header = record { next = 1; bytes = [] }
-text_of (stages.Declaring d) = cond (is_first d.last) header_written (of_declared d)
+text_of (stages.Declaring d) = cond (is_first d.last) (header_written d.version) (of_declared d)
 text_of (stages.Acting d p) = acted_written (of_declared d) d.objects d.actors p.lines
 
 -- The text doesn't say whether the usual marks were declared. So it may lead to the same declarations with another last one.
 abbrev with_last : Declared → Last → Declared
-with_last d l = record { last = l; stock = d.stock; objects = d.objects; actors = d.actors }
+with_last d l = record { version = d.version; last = l; stock = d.stock; objects = d.objects; actors = d.actors }
 
 abbrev NearLast : Last → Last → Type 0
 NearLast last.Levels l = may_object l ≡ true
@@ -191,14 +193,14 @@ same_last last.Object l d near o some = near
 same_last last.Actor l d near o some = near
 
 -- where the text is before, and after lines that give nothing to say
-text_first : (d : Declared) → is_first d.last ≡ true → text_of (stages.Declaring d) ≡ header_written
+text_first : (d : Declared) → is_first d.last ≡ true → text_of (stages.Declaring d) ≡ header_written d.version
 text_first d e = rw e refl
 
 text_later : (d : Declared) → is_first d.last ≡ false → text_of (stages.Declaring d) ≡ of_declared d
 text_later d e = rw e refl
 
-none_declared : (w : Written) (objects : List ObjectLine) (actors : List ActorLine) → objects ≡ [] → actors ≡ [] → declared_written w objects actors ≡ w
-none_declared w objects actors e f = ap₂ (λ (os : List ObjectLine) (own : List ActorLine). declared_written w os own) e f
+none_declared : (v : ℕ) (w : Written) (objects : List ObjectLine) (actors : List ActorLine) → objects ≡ [] → actors ≡ [] → declared_written v w objects actors ≡ w
+none_declared v w objects actors e f = ap₂ (λ (os : List ObjectLine) (own : List ActorLine). declared_written v w os own) e f
 
 levels_usual : (text : Written) (frames warn critical : ℕ) → warn ≡ frames / 4 → critical ≡ frames / 8 → and_levels text frames warn critical ≡ text
 levels_usual text frames warn critical e f = rw (eq-eqb warn (frames / 4) e, eq-eqb critical (frames / 8) f) refl
@@ -207,11 +209,11 @@ loan_some : (text : Written) (number loan : ℕ) → 0 < loan → and_loan text 
 loan_some text number loan some = rw (lt-ltb 0 loan some) refl
 
 -- before the objects
-text_usual : (d : Declared) → Usual d → is_first d.last ≡ false → text_of (stages.Declaring d) ≡ and_loan (and_line header_written d.stock.frames_line (frames_words d.stock.frames)) d.stock.loan_line d.stock.loan
+text_usual : (d : Declared) → Usual d → is_first d.last ≡ false → text_of (stages.Declaring d) ≡ and_loan (and_line (header_written d.version) d.stock.frames_line (frames_words d.stock.frames)) d.stock.loan_line d.stock.loan
 text_usual d u later =
     let s = d.stock in
-    let base = and_loan (and_line header_written s.frames_line (frames_words s.frames)) s.loan_line s.loan in
-    text_later d later ∙ none_declared (stock_of s) d.objects d.actors u.objects u.actors ∙ levels_usual base s.frames s.warn s.critical u.warn u.critical
+    let base = and_loan (and_line (header_written d.version) s.frames_line (frames_words s.frames)) s.loan_line s.loan in
+    text_later d later ∙ none_declared d.version (stock_of d.version s) d.objects d.actors u.objects u.actors ∙ levels_usual base s.frames s.warn s.critical u.warn u.critical
 
 -- where the number of a line is that of its place, or no matter
 module _ (n : ℕ) (text : Written) (place : text.next ≤ n) where
@@ -231,8 +233,8 @@ loan_branch m d words w n e = rw (w, n, e) refl
 pub levels_branch : (m : ℕ) (d : Declared) (words : List (List ℕ)) → word_at words 0 ≡ codes "levels" → length words ≡ 3 → may_level d.last ≡ true → declaring m d words ≡ then_declaring (levels_line d words)
 levels_branch m d words w n e = rw (w, n, e) refl
 
-pub object_branch : (m : ℕ) (d : Declared) (words : List (List ℕ)) → word_at words 0 ≡ codes "object" → length words ≡ 6 → is_trap_word (word_at words 4) ≡ true → may_object d.last ≡ true → declaring m d words ≡ then_declaring (object_line m d words)
-object_branch m d words w n trap e = rw (w, n, trap, e) refl
+pub object_branch : (m : ℕ) (d : Declared) (words : List (List ℕ)) → word_at words 0 ≡ codes "object" → eqb (length words) (object_size d.version) ≡ true → is_trap_word (word_at words 4) ≡ true → is_mode_word d.version (word_at words 6) ≡ true → may_object d.last ≡ true → declaring m d words ≡ then_declaring (object_line m d words)
+object_branch m d words w n trap mode e = rw (w, n, trap, mode, e) refl
 
 pub user_branch : (m : ℕ) (d : Declared) (words : List (List ℕ)) → word_at words 0 ≡ codes "user" → leb 3 (length words) ≡ true → is_first d.last ≡ false → declaring m d words ≡ then_declaring (bound_line User m d words)
 user_branch m d words w n e = rw (w, n, e) refl
@@ -257,7 +259,7 @@ frames_goes n d made l words near order place test e =
     let text = text_of (stages.Declaring d) in
     let m = text.next + (n - text.next) in
     let read : frames_line m d words ≡ Ok t = ap (λ k. frames_line k d words) (at n text place) ∙ e ∙ ap Ok took.1 in
-    let base = and_line header_written n (frames_words took.0) in
+    let base = and_line (header_written d.version) n (frames_words took.0) in
     subst (λ (x : Declared). Goes n (stages.Declaring d) (stages.Declaring x) (stages.Declaring (with_last d l)) words) (sym took.1) (
       inl (record {
         number = n;
@@ -265,7 +267,7 @@ frames_goes n d made l words near order place test e =
         to = stages.Declaring t;
         step = frames_branch m (with_last d l) words shape.0 shape.1 (near_first d.last l near p.1) ∙ ap then_declaring read;
         near = (last.Frames, refl, refl);
-        is = none_declared (stock_of t.stock) d.objects d.actors none.0 none.1 ∙ levels_usual base took.0 (took.0 / 4) (took.0 / 8) refl refl
+        is = none_declared d.version (stock_of d.version t.stock) d.objects d.actors none.0 none.1 ∙ levels_usual base took.0 (took.0 / 4) (took.0 / 8) refl refl
             ∙ ap₂ (λ w ws. and_line w n ws) (sym (text_first d p.1)) (sym took.2);
       }),
       (record { objects = none.0; actors = none.1; warn = refl; critical = refl }, refl),
@@ -284,7 +286,7 @@ loan_goes n d made l words near order place test e =
     let m = text.next + (n - text.next) in
     let read : loan_line m d words ≡ Ok t = ap (λ k. loan_line k d words) (at n text place) ∙ e ∙ ap Ok took.1 in
     let s = d.stock in
-    let base = and_line header_written s.frames_line (frames_words s.frames) in
+    let base = and_line (header_written d.version) s.frames_line (frames_words s.frames) in
     let here : text ≡ base = text_usual d u o.2 ∙ ap (and_loan base s.loan_line) o.1 in
     subst (λ (x : Declared). Goes n (stages.Declaring d) (stages.Declaring x) (stages.Declaring (with_last d l)) words) (sym took.1) (
       inl (record {
@@ -293,7 +295,7 @@ loan_goes n d made l words near order place test e =
         to = stages.Declaring t;
         step = loan_branch m (with_last d l) words shape.0 shape.1 (near_loan d.last l near p.1) ∙ ap then_declaring read;
         near = (last.Loan, refl, refl);
-        is = none_declared (stock_of t.stock) d.objects d.actors u.objects u.actors ∙ levels_usual (and_loan base n took.0) s.frames s.warn s.critical u.warn u.critical
+        is = none_declared d.version (stock_of d.version t.stock) d.objects d.actors u.objects u.actors ∙ levels_usual (and_loan base n took.0) s.frames s.warn s.critical u.warn u.critical
             ∙ loan_some base n took.0 took.3 ∙ ap₂ (λ w ws. and_line w n ws) (sym here) (sym took.2);
       }),
       record { objects = u.objects; actors = u.actors; warn = u.warn; critical = u.critical },
@@ -317,9 +319,9 @@ levels_goes n d made l words near order few test e =
     let m = text.next + (0 - text.next) in
     let after = near_level d.last l near p.1 in
     let s = d.stock in
-    let base = and_loan (and_line header_written s.frames_line (frames_words s.frames)) s.loan_line s.loan in
+    let base = and_loan (and_line (header_written d.version) s.frames_line (frames_words s.frames)) s.loan_line s.loan in
     let here : text ≡ base = text_usual d u o.1 in
-    let there : text_of (stages.Declaring t) ≡ and_levels base s.frames warn critical = none_declared (stock_of t.stock) d.objects d.actors u.objects u.actors in
+    let there : text_of (stages.Declaring t) ≡ and_levels base s.frames warn critical = none_declared d.version (stock_of d.version t.stock) d.objects d.actors u.objects u.actors in
     let read : levels_line d words ≡ Ok t = e ∙ ap Ok took.2 in
     let usual : are_usual s.frames warn critical ≡ true → Goes n (stages.Declaring d) (stages.Declaring t) (stages.Declaring (with_last d l)) words = λ q.
     let r = and_parts (eqb warn (s.frames / 4)) (eqb critical (s.frames / 8)) q in
@@ -341,31 +343,35 @@ levels_goes n d made l words near order few test e =
     ) in
     subst (λ (x : Declared). Goes n (stages.Declaring d) (stages.Declaring x) (stages.Declaring (with_last d l)) words) (sym took.2) (⊎_elim usual other (cases_Bool (are_usual s.frames warn critical)))
 
-object_goes : (n : ℕ) (d made : Declared) (l : Last) (words : List (List ℕ)) → NearLast d.last l → Order d.last d → (text_of (stages.Declaring d)).next ≤ n → (verb_is words 0 (codes "object") 6 && is_trap_word (word_at words 4) && may_object d.last) ≡ true → object_line n d words ≡ Ok made
+object_goes : (n : ℕ) (d made : Declared) (l : Last) (words : List (List ℕ)) → NearLast d.last l → Order d.last d → (text_of (stages.Declaring d)).next ≤ n → (says_object d.version words && may_object d.last) ≡ true → object_line n d words ≡ Ok made
     → Goes n (stages.Declaring d) (stages.Declaring made) (stages.Declaring (with_last d l)) words
 object_goes n d made l words near order place test e =
-    let p = and_parts (verb_is words 0 (codes "object") 6 && is_trap_word (word_at words 4)) (may_object d.last) test in
-    let q = and_parts (verb_is words 0 (codes "object") 6) (is_trap_word (word_at words 4)) p.0 in
-    let shape = shape_of words 0 (codes "object") 6 q.0 in
-    let took = object_take n d made words shape.0 shape.1 q.1 e in
+    let size = object_size d.version in
+    let p = and_parts (says_object d.version words) (may_object d.last) test in
+    let mode = and_parts (verb_is words 0 (codes "object") size && is_trap_word (word_at words 4)) (is_mode_word d.version (word_at words 6)) p.0 in
+    let q = and_parts (verb_is words 0 (codes "object") size) (is_trap_word (word_at words 4)) mode.0 in
+    let shape = shape_of words 0 (codes "object") size q.0 in
+    let long = (and_parts (bytes_eq (word_at words 0) (codes "object")) (eqb (length words) size) q.0).1 in
+    let took = object_take n d made words shape.0 shape.1 q.1 mode.1 e in
     let object = took.0 in
     let o = object_order d.last d order p.1 in
     let t : Declared = with_object d object in
     let text = text_of (stages.Declaring d) in
     let m = text.next + (n - text.next) in
     let read : object_line m d words ≡ Ok t = ap (λ k. object_line k d words) (at n text place) ∙ e ∙ ap Ok took.1 in
-    let w = stock_of d.stock in
-    let here : text ≡ objects_written w d.objects = text_later d o.1 ∙ ap (λ (own : List ActorLine). declared_written w d.objects own) o.0 in
-    let more : objects_written w (d.objects ++ object ∷ []) ≡ and_object (objects_written w d.objects) object = fold-append and_object w d.objects (object ∷ []) in
-    let there : text_of (stages.Declaring t) ≡ objects_written w (d.objects ++ object ∷ []) = ap (λ (own : List ActorLine). declared_written w (d.objects ++ object ∷ []) own) o.0 in
+    let v = d.version in
+    let w = stock_of v d.stock in
+    let here : text ≡ objects_written v w d.objects = text_later d o.1 ∙ ap (λ (own : List ActorLine). declared_written v w d.objects own) o.0 in
+    let more : objects_written v w (d.objects ++ object ∷ []) ≡ and_object v (objects_written v w d.objects) object = fold-append (and_object v) w d.objects (object ∷ []) in
+    let there : text_of (stages.Declaring t) ≡ objects_written v w (d.objects ++ object ∷ []) = ap (λ (own : List ActorLine). declared_written v w (d.objects ++ object ∷ []) own) o.0 in
     subst (λ (x : Declared). Goes n (stages.Declaring d) (stages.Declaring x) (stages.Declaring (with_last d l)) words) (sym took.1) (
       inl (record {
         number = n;
         within = omega arith;
         to = stages.Declaring t;
-        step = object_branch m (with_last d l) words shape.0 shape.1 q.1 (near_object d.last l near p.1) ∙ ap then_declaring read;
+        step = object_branch m (with_last d l) words shape.0 long q.1 mode.1 (near_object d.last l near p.1) ∙ ap then_declaring read;
         near = (last.Object, refl, refl);
-        is = there ∙ more ∙ ap (λ k. and_line (objects_written w d.objects) k (object_words object)) took.3 ∙ ap₂ (λ x ws. and_line x n ws) (sym here) (sym took.2);
+        is = there ∙ more ∙ ap (λ k. and_line (objects_written v w d.objects) k (object_words v object)) took.3 ∙ ap₂ (λ x ws. and_line x n ws) (sym here) (sym took.2);
       }),
       o.0,
     )
@@ -381,7 +387,7 @@ actor_goes n d made l words read later place took e branch =
     let m = text.next + (n - text.next) in
     let same : read m d ≡ Ok t = ap (λ k. read k d) (at n text place) ∙ e ∙ ap Ok took.1 in
     let names = object_names d.objects in
-    let w = objects_written (stock_of d.stock) d.objects in
+    let w = objects_written d.version (stock_of d.version d.stock) d.objects in
     let here : text ≡ actors_written names w d.actors = text_later d later in
     let more : actors_written names w (d.actors ++ actor ∷ []) ≡ and_actor names (actors_written names w d.actors) actor = fold-append (and_actor names) w d.actors (actor ∷ []) in
     subst (λ (x : Declared). Goes n (stages.Declaring d) (stages.Declaring x) (stages.Declaring (with_last d l)) words) (sym took.1) (
@@ -440,7 +446,7 @@ declared_goes n d made l words near order k place e =
     ⊎_elim (λ u. object_goes n d made l words near order place u.0 u.1) (λ u.
     ⊎_elim (λ v. absurd (no_word why.Word made v.1)) (λ v. binds_goes n d made l words near v.0 place v.1)
     (either (is_first d.last) _ _ (Ok made) u.1))
-    (either (verb_is words 0 (codes "object") 6 && is_trap_word (word_at words 4) && may_object d.last) _ _ (Ok made) r.1))
+    (either (says_object d.version words && may_object d.last) _ _ (Ok made) r.1))
     (either (verb_is words 0 (codes "levels") 3 && may_level d.last) _ _ (Ok made) q.1))
     (either (verb_is words 0 (codes "loan") 2 && may_loan d.last) _ _ (Ok made) p.1))
     (either (verb_is words 0 (codes "frames") 2 && is_first d.last) _ _ (Ok made) e)
@@ -451,14 +457,14 @@ declared_goes n d made l words near order k place e =
         (fits_frames d.stock.frames d.stock.loan d.stock.warn d.stock.critical (k.frames o.1)).few
 
 -- the counts of users and pagers aren't written
-count_text : (actors : List ActorLine) (k : ℕ) (w : Written) (objects : List ObjectLine) → objects_written w (counted_from actors k objects) ≡ objects_written w objects
-count_text actors k w [] = refl
-count_text actors k w (o ∷ os) = count_text actors (suc k) (and_object w o) os
+count_text : (v : ℕ) (actors : List ActorLine) (k : ℕ) (w : Written) (objects : List ObjectLine) → objects_written v w (counted_from actors k objects) ≡ objects_written v w objects
+count_text v actors k w [] = refl
+count_text v actors k w (o ∷ os) = count_text v actors (suc k) (and_object v w o) os
 
-counted_text : (w : Written) (objects : List ObjectLine) (actors : List ActorLine) → declared_written w (counted actors objects) actors ≡ declared_written w objects actors
-counted_text w objects actors =
-    ap (λ (os : List ObjectLine). declared_written w os actors) (count_steps actors [] objects)
-    ∙ ap₂ (λ names x. actors_written names x actors) (counted_names actors 0 objects) (count_text actors 0 w objects)
+counted_text : (v : ℕ) (w : Written) (objects : List ObjectLine) (actors : List ActorLine) → declared_written v w (counted actors objects) actors ≡ declared_written v w objects actors
+counted_text v w objects actors =
+    ap (λ (os : List ObjectLine). declared_written v w os actors) (count_steps actors [] objects)
+    ∙ ap₂ (λ names x. actors_written names x actors) (counted_names actors 0 objects) (count_text v actors 0 w objects)
 
 pub steps_branch : (m : ℕ) (d : Declared) (words : List (List ℕ)) → verb_is words 0 (codes "steps") 1 ≡ true → is_whole (with_all_counted d) ≡ true → declaring m d words ≡ Ok (stages.Acting (with_all_counted d) nothing_played)
 steps_branch m d words e f = rw (e, f) refl
@@ -490,7 +496,7 @@ steps_goes n d l words near order test whole =
         to = stages.Acting (with_all_counted d) nothing_played;
         step = ap (λ k. declaring m (with_last d k) words) same ∙ steps_branch m d words test whole;
         near = refl;
-        is = ap (λ x. and_line x 0 (codes "steps" ∷ [])) (counted_text (stock_of d.stock) d.objects d.actors ∙ sym (text_later d (not-true (is_first d.last) q.0))) ∙ ap (λ ws. and_line text 0 ws) (sym ws);
+        is = ap (λ x. and_line x 0 (codes "steps" ∷ [])) (counted_text d.version (stock_of d.version d.stock) d.objects d.actors ∙ sym (text_later d (not-true (is_first d.last) q.0))) ∙ ap (λ ws. and_line text 0 ws) (sym ws);
       }),
       tt,
     )
@@ -514,7 +520,7 @@ declaring_goes n d t l words near order k place e = ⊎_elim ends more (either (
 -- a line of an actor
 played_goes : (n : ℕ) (d : Declared) (p made : Played) (words : List (List ℕ)) → (text_of (stages.Acting d p)).next ≤ n → act d n p words ≡ Ok made → Goes n (stages.Acting d p) (stages.Acting d made) (stages.Acting d p) words
 played_goes n d p made words place e =
-    let verb = found_ok why.Word (verb_of words) _ made e in
+    let verb = found_ok why.Word (verb_of d.version words) _ made e in
     let actor = bind_ok (actor_in d (word_at words 0)) _ made verb.2 in
     let kind = kind_of (slice_get d.actors actor.0) in
     let action = bind_ok (action_in d kind verb.0 words) _ made actor.2 in
@@ -682,20 +688,20 @@ header_kept : (t : Stage) (line : List ℕ) (left : ℕ) → length line + 1 + l
 header_kept t line left room e =
     let short = then_ok why.Long (leb (length line) 4096) _ t e in
     let few = then_ok why.Limit (leb 1 65536) _ t short.1 in
-    ⊎_elim begins (λ p. absurd (no_word why.Header t p.1)) (either (bytes_eq line (codes "pagerd-script 1")) (Ok (stages.Declaring nothing_declared)) (Err why.Header) (Ok t) few.1)
-  where
-    begins : (bytes_eq line (codes "pagerd-script 1") ≡ true) × (◌≡◌ {A = Result Stage Why} (Ok (stages.Declaring nothing_declared)) (Ok t)) → Kept 2 t left
-    begins p =
-        let long : length line ≡ 15 = ap length (same_word line (codes "pagerd-script 1") p.0) in
-        subst (λ (x : Stage). Kept 2 x left) (ok_is (stages.Declaring nothing_declared) t p.1) (record {
-          own = stages.Declaring nothing_declared;
-          near = (last.Nothing, refl, refl);
-          reads = header_reads;
-          place = omega arith;
-          room = omega (arith, long, room);
-          keeps = nothing_declares;
-          order = (refl, refl);
-        })
+    let version = found_ok why.Header (version_in line) _ t few.1 in
+    let v = version.0 in
+    let said = says_version line v version.1 in
+    let long : length line ≡ length (first_line v) = ap length said.whole in
+    let ends : length (first_line v ++ 10 ∷ []) ≡ length (first_line v) + 1 = length-append (first_line v) (10 ∷ []) in
+    subst (λ (x : Stage). Kept 2 x left) (ok_is (stages.Declaring (nothing_declared v)) t version.2) (record {
+      own = stages.Declaring (nothing_declared v);
+      near = (last.Nothing, refl, refl);
+      reads = header_reads v said.known;
+      place = omega arith;
+      room = omega (arith, long, ends, room);
+      keeps = nothing_declares v said.known;
+      order = (refl, refl);
+    })
 
 header_last : (rest : List ℕ) (script : Script) → last_step 1 stages.Header rest ≡ Ok script → ⊥
 header_last [] script e = no_word why.Header script e

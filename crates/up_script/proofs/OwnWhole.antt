@@ -79,6 +79,9 @@ module _ (script : Script) (t : HasText script) where
   abbrev stock : Stock
   stock = stock_with script.frames script.frames_line script.loan script.loan_line script.warn script.critical
 
+  abbrev v : ℕ
+  v = script.version
+
   abbrev objects : List ObjectLine
   objects = script.objects
 
@@ -110,20 +113,20 @@ module _ (script : Script) (t : HasText script) where
   named = names_sound objects parts.sound
 
   -- the objects
-  objects_back : Begun (objects_written (stock_in script) objects) stock bares may_object
+  objects_back : Begun v (objects_written v (stock_in script) objects) stock bares may_object
   unfolding images_of
   objects_back =
       let f = fits_frames script.frames script.loan script.warn script.critical t.fits.frames in
-      let a = frames_reads script.frames script.frames_line f.some f.few t.frames in
-      let b = loan_reads script.frames script.frames_line script.loan script.loan_line (frames_of script) f.loaned a t.loan in
-      let c = stock_reads script.frames script.frames_line script.loan script.loan_line script.warn script.critical (and_loan (frames_of script) script.loan_line script.loan) f.few f.warned f.lower b t.levels in
-      objects_read stock c.l (stock_in script) [] objects c.is c.reads t.objects t.fits.imaged (all_weaker is_sound_object is_fair_object objects sound_fair parts.sound) apart t.fits.images (omega (arith, parts.few))
+      let a = frames_reads v script.frames script.frames_line t.fits.version f.some f.few t.frames in
+      let b = loan_reads v script.frames script.frames_line script.loan script.loan_line (frames_of script) f.loaned a t.loan in
+      let c = stock_reads v script.frames script.frames_line script.loan script.loan_line script.warn script.critical (and_loan (frames_of script) script.loan_line script.loan) f.few f.warned f.lower b t.levels in
+      objects_read v stock c.l (stock_in script) [] objects c.is c.reads t.objects t.fits.imaged t.fits.modes (all_weaker is_sound_object is_fair_object objects sound_fair parts.sound) apart t.fits.images (omega (arith, parts.few))
 
   -- the actors
-  actors_back : Acted (actors_written (object_names bares) (objects_written (stock_in script) objects) actors) stock bares actors
+  actors_back : Acted v (actors_written (object_names bares) (objects_written v (stock_in script) objects) actors) stock bares actors
   actors_back =
       let o = objects_back in
-      let text = objects_written (stock_in script) objects in
+      let text = objects_written v (stock_in script) objects in
       let same : object_names objects ≡ object_names bares = sym (bare_names objects) in
       let long : length objects ≡ length bares = sym (length-map objects bare) in
       let fits = subst (λ ns. all_fit (λ (a : ActorLine). a.number) (actor_words ns) text actors ≡ true) same t.actors in
@@ -131,29 +134,29 @@ module _ (script : Script) (t : HasText script) where
       let right = subst (λ n. list_all (λ (a : ActorLine). binds_right a.kind n a.objects) actors ≡ true) long t.bound in
       let differ : are_unlike bytes_eq ((object_names bares ++ actor_names []) ++ actor_names actors) ≡ true =
       ap (λ ns. are_unlike bytes_eq (ns ++ actor_names actors)) (append-nil (object_names bares) ∙ sym same) ∙ t.fits.names in
-      actors_read stock o.l bares text [] actors (object_later o.l o.is) o.reads fits (subst (λ ns. list_all is_name ns ≡ true) same named) (subst (λ ns. are_unlike bytes_eq ns ≡ true) same apart) fit right differ (omega (arith, parts.several))
+      actors_read v stock o.l bares text [] actors (object_later o.l o.is) o.reads fits (subst (λ ns. list_all is_name ns ≡ true) same named) (subst (λ ns. are_unlike bytes_eq ns ≡ true) same apart) fit right differ (omega (arith, parts.several))
 
   counts : counted actors bares ≡ objects
   counts = count_steps actors [] bares ∙ bare_counted actors 0 objects ∙ sym (count_steps actors [] objects) ∙ t.counts
 
   -- the line steps
-  steps_back : Reads (steps_in script) (stages.Acting (decl actors_back.l stock objects actors) nothing_played)
+  steps_back : Reads (steps_in script) (stages.Acting (decl v actors_back.l stock objects actors) nothing_played)
   steps_back =
       let l = actors_back.l in
-      let d = decl l stock bares actors in
+      let d = decl v l stock bares actors in
       let declared = declared_in script in
       let words = codes "steps" ∷ [] in
-      let reads : Reads declared (stages.Declaring d) = subst (λ ns. Reads (actors_written ns (objects_written (stock_in script) objects) actors) (stages.Declaring d)) (bare_names objects) actors_back.reads in
+      let reads : Reads declared (stages.Declaring d) = subst (λ ns. Reads (actors_written ns (objects_written v (stock_in script) objects) actors) (stages.Declaring d)) (bare_names objects) actors_back.reads in
       let served = all_weaker is_sound_object is_served objects sound_served parts.sound in
       let here : (not (is_first l) && ltb 0 (length objects) && list_all is_served objects) ≡ true = rw (actors_back.is, lt-ltb 0 (length objects) parts.some, served) refl in
       let whole : is_whole (with_all_counted d) ≡ true = subst (λ (xs : List ObjectLine). (not (is_first l) && ltb 0 (length xs) && list_all is_served xs) ≡ true) (sym counts) here in
-      next_reads declared (stages.Declaring d) (stages.Acting (decl l stock objects actors) nothing_played) words reads refl t.steps (record { some = omega arith; good = refl; shown = refl })
-      (steps_branch declared.next d words refl whole ∙ ap (λ (xs : List ObjectLine). ok_stage (stages.Acting (decl l stock xs actors) nothing_played)) counts)
+      next_reads declared (stages.Declaring d) (stages.Acting (decl v l stock objects actors) nothing_played) words reads refl t.steps (record { some = omega arith; good = refl; shown = refl })
+      (steps_branch declared.next d words refl whole ∙ ap (λ (xs : List ObjectLine). ok_stage (stages.Acting (decl v l stock xs actors) nothing_played)) counts)
 
   whole_back : Rest 1 stages.Header (script_text script) ≡ Ok script
   whole_back =
-      let d = decl actors_back.l stock objects actors in
-      let done = lines_read d (steps_in script) [] 67108864 [] script.lines steps_back t.lines named (names_fit objects actors t.fits.actors) apart (unlike_back bytes_eq (object_names objects) (actor_names actors) t.fits.names) parts.lines t.bytes t.leaves t.fits.lines t.stays t.fits.bytes in
+      let d = decl v actors_back.l stock objects actors in
+      let done = lines_read d (steps_in script) [] 67108864 [] script.lines t.fits.modes steps_back t.lines named (names_fit objects actors t.fits.actors) apart (unlike_back bytes_eq (object_names objects) (actor_names actors) t.fits.names) parts.lines t.bytes t.leaves t.fits.lines t.stays t.fits.bytes in
       let text = lines_written (object_names objects) (actor_names actors) (steps_in script) script.lines in
       ap (λ bytes. Rest 1 stages.Header bytes) (sym (append-nil text.bytes)) ∙ done.reads [] ∙ lines_last line_step last_step text.next (stages.Acting d (played script.lines done.room done.left)) []
 

@@ -26,6 +26,7 @@ use Rattle.up_script.specs.Actions.{action_in, alone_of, fields_of, range_in, re
 use Rattle.up_script.specs.Declarations.{object_in}
 use Rattle.up_script.specs.Text.{action_words, object_names}
 use Rattle.up_script.specs.Verbs.{fail_verb, user_verb, pager_verb, other_verb, lone_verb, or_on, or_lone, verb_of, call_over, role_of}
+use Rattle.up_script.specs.Versions.{has_modes}
 use Rattle.up_script.specs.declared.declarations.Declared.{Declared}
 use Rattle.up_script.specs.declared.script.Action.{Action}
 use Rattle.up_script.specs.declared.script.Action.TheVariants as actions
@@ -63,8 +64,15 @@ pub whole_six : (words : List (List ℕ)) → length words ≡ 6 → words ≡ w
 whole_six [] e = absurd (omega (arith, e))
 whole_six (a ∷ words) e = ap (λ (ws : List (List ℕ)). a ∷ ws) (whole_five words (omega (arith, e)))
 
+pub whole_seven : (words : List (List ℕ)) → length words ≡ 7 → words ≡ word_at words 0 ∷ word_at words 1 ∷ word_at words 2 ∷ word_at words 3 ∷ word_at words 4 ∷ word_at words 5 ∷ word_at words 6 ∷ []
+whole_seven [] e = absurd (omega (arith, e))
+whole_seven (a ∷ words) e = ap (λ (ws : List (List ℕ)). a ∷ ws) (whole_six words (omega (arith, e)))
+
 pub six : {a b c d f g h i j k l m : List ℕ} → a ≡ b → c ≡ d → f ≡ g → h ≡ i → j ≡ k → l ≡ m → (a ∷ c ∷ f ∷ h ∷ j ∷ l ∷ []) ≡ (b ∷ d ∷ g ∷ i ∷ k ∷ m ∷ [])
 six e f g h i j = cc (e, f, g, h, i, j)
+
+pub six_and : {a b c d f g h i j k l m : List ℕ} (more : List (List ℕ)) → a ≡ b → c ≡ d → f ≡ g → h ≡ i → j ≡ k → l ≡ m → (a ∷ c ∷ f ∷ h ∷ j ∷ l ∷ more) ≡ (b ∷ d ∷ g ∷ i ∷ k ∷ m ∷ more)
+six_and more e f g h i j = cc (e, f, g, h, i, j)
 
 -- a verb and the number of words
 pub shape_of : (words : List (List ℕ)) (place : ℕ) (text : List ℕ) (count : ℕ) → verb_is words place text count ≡ true → (word_at words place ≡ text) × (length words ≡ count)
@@ -131,6 +139,7 @@ ShapeOn on.Read words = verb_is words 1 (codes "read") 5 ≡ true
 ShapeOn on.Write words = verb_is words 1 (codes "write") 5 ≡ true
 ShapeOn on.Supply words = verb_is words 1 (codes "supply") 6 ≡ true
 ShapeOn (on.Range verb) words = ShapeOver verb words
+ShapeOn on.EndOf words = verb_is words 1 (codes "end") 6 ≡ true
 ShapeOn on.Query words = verb_is words 1 (codes "query") 6 ≡ true
 ShapeOn on.Resize words = verb_is words 1 (codes "resize") 4 ≡ true
 ShapeOn on.Turn words = verb_is words 1 (codes "turn") 4 ≡ true
@@ -187,8 +196,8 @@ user_shape words verb e =
     link P (verb_is words 1 (codes "sync") 3) on.Sync _ verb e (λ t. t) (λ e.
     link P (verb_is words 1 (codes "leave") 3) on.Leave _ verb e (λ t. t) (nothing P verb))))))))))
 
-pager_shape : (words : List (List ℕ)) (verb : On) → pager_verb words ≡ Some verb → ShapeOn verb words
-pager_shape words verb e =
+pager_shape : (version : ℕ) (words : List (List ℕ)) (verb : On) → pager_verb version words ≡ Some verb → ShapeOn verb words
+pager_shape version words verb e =
     let P : On → Type 0 = λ v. ShapeOn v words in
     link P (verb_is words 1 (codes "packet") 3) on.Packet _ verb e (λ t. t) (λ e.
     link P (verb_is words 1 (codes "supply") 6) on.Supply _ verb e (λ t. t) (λ e.
@@ -197,10 +206,11 @@ pager_shape words verb e =
     link P (verb_is words 1 (codes "begin") 6 && word_is words 5 (codes "any")) (on.Range (over.Begin false)) _ verb e (λ t. and_parts (verb_is words 1 (codes "begin") 6) (word_is words 5 (codes "any")) t) (λ e.
     link P (verb_is words 1 (codes "begin") 6 && word_is words 5 (codes "zero")) (on.Range (over.Begin true)) _ verb e (λ t. and_parts (verb_is words 1 (codes "begin") 6) (word_is words 5 (codes "zero")) t) (λ e.
     link P (verb_is words 1 (codes "end") 5) (on.Range over.End) _ verb e (λ t. t) (λ e.
+    link P (verb_is words 1 (codes "end") 6 && has_modes version) on.EndOf _ verb e (λ t. (and_parts (verb_is words 1 (codes "end") 6) (has_modes version) t).0) (λ e.
     link P (verb_is words 1 (codes "query") 6) on.Query _ verb e (λ t. t) (λ e.
     link P (verb_is words 1 (codes "stats") 4 && word_is words 3 (codes "keep")) (on.Stats false) _ verb e (λ t. and_parts (verb_is words 1 (codes "stats") 4) (word_is words 3 (codes "keep")) t) (λ e.
     link P (verb_is words 1 (codes "stats") 4 && word_is words 3 (codes "reset")) (on.Stats true) _ verb e (λ t. and_parts (verb_is words 1 (codes "stats") 4) (word_is words 3 (codes "reset")) t) (λ e.
-    link P (verb_is words 1 (codes "detach") 3) on.Detach _ verb e (λ t. t) (nothing P verb)))))))))))
+    link P (verb_is words 1 (codes "detach") 3) on.Detach _ verb e (λ t. t) (nothing P verb))))))))))))
 
 other_shape : (words : List (List ℕ)) (verb : On) → other_verb words ≡ Some verb → ShapeOn verb words
 other_shape words verb e =
@@ -229,10 +239,10 @@ shape_both words verb None (Some v) f g e = subst (λ u. Shape u words) (some_is
 shape_both words verb None None f g e = absurd (none_some verb e)
 
 -- the verb of a line stands in its words
-verb_shape : (words : List (List ℕ)) (verb : Verb) → verb_of words ≡ Some verb → Shape verb words
-verb_shape words verb e =
-    shape_both words verb (or_on (user_verb words) (or_on (pager_verb words) (other_verb words))) (lone_verb words)
-    (λ v. on_shape words v (user_verb words) (or_on (pager_verb words) (other_verb words)) (user_shape words v) (on_shape words v (pager_verb words) (other_verb words) (pager_shape words v) (other_shape words v)))
+verb_shape : (version : ℕ) (words : List (List ℕ)) (verb : Verb) → verb_of version words ≡ Some verb → Shape verb words
+verb_shape version words verb e =
+    shape_both words verb (or_on (user_verb words) (or_on (pager_verb version words) (other_verb words))) (lone_verb words)
+    (λ v. on_shape words v (user_verb words) (or_on (pager_verb version words) (other_verb words)) (user_shape words v) (on_shape words v (pager_verb version words) (other_verb words) (pager_shape version words v) (other_shape words v)))
     (lone_shape words) e
 
 -- the words behind the name of the actor
@@ -294,6 +304,11 @@ module _ (names words : List (List ℕ)) (object : ℕ) (is : word_at words 2 �
   on_takes kind (on.Range verb) action s e =
       let range = bind_ok (range_in words 3) _ action e in
       said action (actions.Act object (call_over verb range.0)) range.2 (over_takes verb range.0 s range.1)
+  on_takes kind on.EndOf action s e =
+      let range = bind_ok (range_in words 3) _ action e in
+      let of = bind_ok (number_between 0 18446744073709551615 (word_at words 5)) _ action range.2 in
+      said action (actions.Act object (calls.End range.0 (Some of.0))) of.2
+      (range_more (codes "end") (decimal of.0) range.0 s range.1 (number_takes 0 18446744073709551615 of.0 (word_at words 5) (omega arith) of.1))
   on_takes kind on.Query action s e =
       let range = bind_ok (range_in words 3) _ action e in
       let room = bind_ok (number_between 0 65536 (word_at words 5)) _ action range.2 in
@@ -354,9 +369,9 @@ alone_takes names words lone.Relieve action s e =
     (whole_three words p.1 ∙ three refl p.0 (number_takes 1 16384 frames.0 (word_at words 2) (omega arith) frames.1))
 
 -- a line of an actor has the words of what it does, behind the name of the actor
-pub action_takes : (declared : Declared) (kind : Kind) (verb : Verb) (words : List (List ℕ)) (action : Action) → verb_of words ≡ Some verb → action_in declared kind verb words ≡ Ok action
+pub action_takes : (declared : Declared) (kind : Kind) (verb : Verb) (words : List (List ℕ)) (action : Action) → verb_of declared.version words ≡ Some verb → action_in declared kind verb words ≡ Ok action
     → words ≡ word_at words 0 ∷ action_words (object_names declared.objects) action
-action_takes declared kind (Alone verb) words action v e = alone_takes (object_names declared.objects) words verb action (verb_shape words (Alone verb) v) e
+action_takes declared kind (Alone verb) words action v e = alone_takes (object_names declared.objects) words verb action (verb_shape declared.version words (Alone verb) v) e
 action_takes declared kind (OnObject verb) words action v e =
     let object = bind_ok (object_in declared (word_at words 2)) _ action e in
-    on_takes (object_names declared.objects) words object.0 (object_takes declared (word_at words 2) object.0 object.1) kind verb action (verb_shape words (OnObject verb) v) object.2
+    on_takes (object_names declared.objects) words object.0 (object_takes declared (word_at words 2) object.0 object.1) kind verb action (verb_shape declared.version words (OnObject verb) v) object.2

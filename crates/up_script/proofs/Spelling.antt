@@ -1,5 +1,5 @@
 -- Lines written one after another, and the stage to which they are read.
-use Rattle.std.proofs.Common.{◌≡◌, ℕ, zero, suc, ◌+◌, ◌-◌, ◌<◌, ◌≤◌, Bool, true, false, leb, List, [], ◌∷◌, ◌++◌, length, replicate, Result, Ok, refl, sym, ap, ◌∙◌, append_assoc, arith}
+use Rattle.std.proofs.Common.{◌≡◌, ℕ, zero, suc, ◌+◌, ◌-◌, ◌<◌, ◌≤◌, Bool, true, false, leb, List, [], ◌∷◌, ◌++◌, length, replicate, Some, Result, Ok, refl, sym, ap, ◌∙◌, append_assoc, arith}
 use Rattle.std.specs.Prelude.{codes}
 use Rattle.std.specs.List.{list_all}
 use Rattle.std.proofs.lemmas.Bool.{le-leb}
@@ -14,9 +14,11 @@ use Rattle.up_fields.proofs.Sentences.{words_again, line_free, split_line}
 use Rattle.up_script.specs.Declarations.{nothing_declared}
 use Rattle.up_script.specs.Reading.{stage_step, is_skipped, line_step, last_step}
 use Rattle.up_script.specs.Text.{Written, and_line, header_written}
+use Rattle.up_script.specs.Versions.{is_version, first_line, version_in}
 use Rattle.up_script.specs.declared.reading.Stage.{Stage}
 use Rattle.up_script.specs.declared.reading.Stage.TheVariants as stages
 use Rattle.up_script.specs.declared.script.Script.{Script}
+use Rattle.up_script.proofs.FirstLine.{first_again}
 
 -- what the lines of these bytes are read as, from line n on
 abbrev pub Rest : ℕ → Stage → List ℕ → Result Script Fault
@@ -75,7 +77,12 @@ add_line text s t number words reads past few are e rest =
     ∙ ap (λ (ls : List (List ℕ)). lines_from line_step last_step m s ls) (split_line line rest (line_free words are.good)) ∙ lines_more line_step last_step m s t line rest step
 
 -- the first line
-pub header_reads : Reads header_written (stages.Declaring nothing_declared)
-header_reads rest =
-    ap (λ (ls : List (List ℕ)). lines_from line_step last_step 1 stages.Header ls) (split_line (codes "pagerd-script 1") rest refl)
-    ∙ lines_more line_step last_step 1 stages.Header (stages.Declaring nothing_declared) (codes "pagerd-script 1") rest refl
+pub header_reads : (version : ℕ) → is_version version ≡ true → Reads (header_written version) (stages.Declaring (nothing_declared version))
+header_reads version known rest =
+    let line = first_line version in
+    let first = first_again version known in
+    ap (λ (ls : List (List ℕ)). lines_from line_step last_step 1 stages.Header ls) (split_line line rest first.free)
+    ∙ lines_more line_step last_step 1 stages.Header (stages.Declaring (nothing_declared version)) line rest (first_step line version first.short first.again)
+  where
+    first_step : (line : List ℕ) (version : ℕ) → length line ≤ 4096 → version_in line ≡ Some version → line_step 1 stages.Header line ≡ Ok (stages.Declaring (nothing_declared version))
+    first_step line version short is = rw (le-leb (length line) 4096 short, is) refl

@@ -1,5 +1,5 @@
 -- The lines of actors.
-use Rattle.std.specs.Prelude.{ℕ, ◌+◌, ◌-◌, ◌*◌, ◌==◌, ◌&&◌, ◌++◌, Bool, true, false, not, List, [], ◌∷◌, Option, Some, None, Result, Ok, length, nat_le, slice_get}
+use Rattle.std.specs.Prelude.{ℕ, ◌+◌, ◌-◌, ◌*◌, ◌==◌, ◌&&◌, ◌++◌, Bool, true, false, not, List, [], ◌∷◌, Option, Some, None, Result, Ok, cond, is_some, length, nat_le, slice_get}
 use Rattle.std.specs.List.{list_any}
 use Rattle.up_num.specs.Span.{Span}
 use Rattle.up_model.specs.declared.entry.Brought.TheVariants.{Nothing}
@@ -11,7 +11,7 @@ use Rattle.up_words.specs.Numbers.{number_between}
 use Rattle.up_words.specs.Runs.{bytes_between}
 use Rattle.up_words.specs.declared.fault.Why.{Why}
 use Rattle.up_words.specs.declared.fault.Why.TheVariants as why
-use Rattle.up_script.specs.Objects.{actor_named, acts_on, has_image}
+use Rattle.up_script.specs.Objects.{actor_named, acts_on, has_image, is_numbered}
 use Rattle.up_script.specs.Declarations.{object_in}
 use Rattle.up_script.specs.Verbs.{verb_of, says, call_over, role_of}
 use Rattle.up_script.specs.declared.declarations.Declared.{Declared}
@@ -69,6 +69,13 @@ range_fields verb object words = do
   range ← range_in words 3
   Ok (actions.Act object (call_over verb range))
 
+-- A end OBJ F C N: the begin of number N is ended
+abbrev pub end_fields : ℕ → List (List ℕ) → Result Action Why
+end_fields object words = do
+  range ← range_in words 3
+  of ← number_between 0 18446744073709551615 (word_at words 5)
+  Ok (actions.Act object (calls.End range (Some of)))
+
 -- A query OBJ F C ROOM
 abbrev pub query_fields : ℕ → List (List ℕ) → Result Action Why
 query_fields object words = do
@@ -107,6 +114,7 @@ fields_of kind on.Read object words = read_fields object words
 fields_of kind on.Write object words = write_fields object words
 fields_of kind on.Supply object words = supply_fields object words
 fields_of kind (on.Range verb) object words = range_fields verb object words
+fields_of kind on.EndOf object words = end_fields object words
 fields_of kind on.Query object words = query_fields object words
 fields_of kind on.Resize object words = resize_fields object words
 fields_of kind on.Turn object words = turn_fields object words
@@ -155,9 +163,15 @@ abbrev pub kind_of : Option ActorLine → Kind
 kind_of None = User
 kind_of (Some actor) = actor.kind
 
--- a sync is for an object with image
+-- an end has a number exactly where its object is numbered
+abbrev pub suits_mode : Bool → Call → Bool
+suits_mode numbered (calls.End range of) = cond numbered (is_some of) (not (is_some of))
+suits_mode numbered _ = true
+
+-- a sync is for an object with image, and an end has the form of its object's mode
 abbrev pub has_what_it_needs : Declared → Action → Bool
 has_what_it_needs declared (actions.Sync object) = has_image declared.objects object
+has_what_it_needs declared (actions.Act object call) = suits_mode (is_numbered declared.objects object) call
 has_what_it_needs declared _ = true
 
 -- the verb is this actor's, it is bound to the object, and the object is as the verb needs it
@@ -199,7 +213,7 @@ with_line played number actor action = record {
 -- one line more, with its number in the text, where there is room for its bytes
 abbrev pub act : Declared → ℕ → Played → List (List ℕ) → Result Played Why
 act declared number played words = do
-  verb ← or_why why.Word (verb_of words)
+  verb ← or_why why.Word (verb_of declared.version words)
   actor ← actor_in declared (word_at words 0)
   action ← action_in declared (kind_of (slice_get declared.actors actor)) verb words
   role ← check why.Role (may_act declared actor verb action)

@@ -8,6 +8,7 @@ use Rattle.up_words.specs.Numbers.{number_between}
 use Rattle.up_words.specs.Names.{is_name}
 use Rattle.up_words.specs.declared.fault.Why.{Why}
 use Rattle.up_words.specs.declared.fault.Why.TheVariants as why
+use Rattle.up_script.specs.Versions.{has_modes, object_size, is_mode_word}
 use Rattle.up_script.specs.Objects.{object_named, actor_named, image_named, has_image, is_among, counted, is_served}
 use Rattle.up_script.specs.declared.declarations.Declared.{Declared}
 use Rattle.up_script.specs.declared.declarations.Last.{Last}
@@ -37,9 +38,10 @@ may_object last.Nothing = false
 may_object last.Actor = false
 may_object _ = true
 
--- nothing is declared yet
-abbrev pub nothing_declared : Declared
-nothing_declared = record {
+-- nothing is declared yet, in a script of this version
+abbrev pub nothing_declared : ℕ → Declared
+nothing_declared version = record {
+  version = version;
   last = last.Nothing;
   stock = record { frames = 0; frames_line = 0; loan = 0; loan_line = 0; warn = 0; critical = 0 };
   objects = [];
@@ -61,6 +63,7 @@ abbrev pub frames_line : ℕ → Declared → List (List ℕ) → Result Declare
 frames_line line declared words = do
   frames ← number_between 1 16384 (word_at words 1)
   Ok (record {
+    version = declared.version;
     last = last.Frames;
     stock = record { frames = frames; frames_line = line; loan = 0; loan_line = 0; warn = frames / 4; critical = frames / 8 };
     objects = declared.objects;
@@ -71,14 +74,14 @@ frames_line line declared words = do
 abbrev pub loan_line : ℕ → Declared → List (List ℕ) → Result Declared Why
 loan_line line declared words = do
   loan ← number_between 1 4096 (word_at words 1)
-  Ok (record { last = last.Loan; stock = with_loan declared.stock line loan; objects = declared.objects; actors = declared.actors })
+  Ok (record { version = declared.version; last = last.Loan; stock = with_loan declared.stock line loan; objects = declared.objects; actors = declared.actors })
 
 -- levels W C: the marks, of which none is above the one before it, and none above the frames
 abbrev pub levels_line : Declared → List (List ℕ) → Result Declared Why
 levels_line declared words = do
   warn ← number_between 0 declared.stock.frames (word_at words 1)
   critical ← number_between 0 warn (word_at words 2)
-  Ok (record { last = last.Levels; stock = with_levels declared.stock warn critical; objects = declared.objects; actors = declared.actors })
+  Ok (record { version = declared.version; last = last.Levels; stock = with_levels declared.stock warn critical; objects = declared.objects; actors = declared.actors })
 
 -- a name that neither an object nor an actor has
 abbrev pub new_name : Declared → List ℕ → Result (List ℕ) Why
@@ -98,9 +101,13 @@ image_in declared word =
     (check why.Name (is_name word && not (image_named word declared.objects)) >>= λ new. Ok (Some word))
 
 abbrev pub with_object : Declared → ObjectLine → Declared
-with_object declared object = record { last = last.Object; stock = declared.stock; objects = declared.objects ++ object ∷ []; actors = declared.actors }
+with_object declared object = record { version = declared.version; last = last.Object; stock = declared.stock; objects = declared.objects ++ object ∷ []; actors = declared.actors }
 
--- object NAME PAGES LIMIT TRAP IMAGE: one object more, of 16. Its users and pagers are counted when all are declared
+-- the mode of an object is numbered; in version 1 all objects are ranged
+abbrev pub says_numbered : ℕ → List (List ℕ) → Bool
+says_numbered version words = has_modes version && word_is words 6 (codes "numbered")
+
+-- object NAME PAGES LIMIT TRAP IMAGE, in version 2 with MODE: one object more, of 16. Its users and pagers are counted when all are declared
 abbrev pub object_line : ℕ → Declared → List (List ℕ) → Result Declared Why
 object_line line declared words = do
   name ← new_name declared (word_at words 1)
@@ -111,7 +118,15 @@ object_line line declared words = do
   Ok (with_object declared (record {
     number = line;
     name = name;
-    birth = record { pages = pages; limit = limit; trap = word_is words 4 (codes "trap"); users = 0; pagers = 0; image = is_some image };
+    birth = record {
+      pages = pages;
+      limit = limit;
+      trap = word_is words 4 (codes "trap");
+      users = 0;
+      pagers = 0;
+      image = is_some image;
+      numbered = says_numbered declared.version words;
+    };
     image = image;
   }))
 
@@ -136,7 +151,7 @@ may_serve _ objects object = true
 abbrev pub with_actor : Declared → ActorLine → Result Declared Why
 with_actor declared actor = do
   few ← check why.Limit (nat_lt (length declared.actors) 64)
-  Ok (record { last = last.Actor; stock = declared.stock; objects = declared.objects; actors = declared.actors ++ actor ∷ [] })
+  Ok (record { version = declared.version; last = last.Actor; stock = declared.stock; objects = declared.objects; actors = declared.actors ++ actor ∷ [] })
 
 -- user, pager or worker NAME OBJECT ..
 abbrev pub bound_line : Kind → ℕ → Declared → List (List ℕ) → Result Declared Why
@@ -172,18 +187,23 @@ actor_line line declared words =
 abbrev pub is_trap_word : List ℕ → Bool
 is_trap_word word = bytes_eq word (codes "trap") || bytes_eq word (codes "free")
 
+-- the words of a line that declares an object: so many, with the fixed ones at their places
+abbrev pub says_object : ℕ → List (List ℕ) → Bool
+says_object version words =
+    verb_is words 0 (codes "object") (object_size version) && is_trap_word (word_at words 4) && is_mode_word version (word_at words 6)
+
 -- a line that declares frames or an object
 abbrev pub declaration_line : ℕ → Declared → List (List ℕ) → Result Declared Why
 declaration_line line declared words =
     cond (verb_is words 0 (codes "frames") 2 && is_first declared.last) (frames_line line declared words)
     (cond (verb_is words 0 (codes "loan") 2 && may_loan declared.last) (loan_line line declared words)
     (cond (verb_is words 0 (codes "levels") 3 && may_level declared.last) (levels_line declared words)
-    (cond (verb_is words 0 (codes "object") 6 && is_trap_word (word_at words 4) && may_object declared.last) (object_line line declared words)
+    (cond (says_object declared.version words && may_object declared.last) (object_line line declared words)
     (cond (is_first declared.last) (Err why.Word) (actor_line line declared words)))))
 
 -- the declarations, with the counts of each object's users and pagers
 abbrev pub with_all_counted : Declared → Declared
-with_all_counted declared = record { last = declared.last; stock = declared.stock; objects = counted declared.actors declared.objects; actors = declared.actors }
+with_all_counted declared = record { version = declared.version; last = declared.last; stock = declared.stock; objects = counted declared.actors declared.objects; actors = declared.actors }
 
 -- all is there that a script needs, once users and pagers are counted: frames, an object, and a user and a pager of each
 abbrev pub is_whole : Declared → Bool

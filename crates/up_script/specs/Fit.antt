@@ -1,16 +1,17 @@
--- What every script keeps that a text spells, beside what Sound says: its frames and marks, different names and images, whom an actor acts on, whose
+-- What every script keeps that a text spells, beside what Sound says: its version and modes, its frames and marks, different names and images, whom an actor acts on, whose
 -- each line is, and the bytes of all lines.
-use Rattle.std.specs.Prelude.{◌≡◌, ℕ, ◌≤◌, ◌==◌, ◌&&◌, ◌++◌, Bool, true, false, cond, not, List, [], ◌∷◌, Option, Some, None, Ok, is_some, length, map, nat_le, nat_lt, slice_get}
+use Rattle.std.specs.Prelude.{◌≡◌, ℕ, ◌≤◌, ◌==◌, ◌&&◌, ◌||◌, ◌++◌, Bool, true, false, cond, not, List, [], ◌∷◌, Option, Some, None, Ok, is_some, length, map, nat_le, nat_lt, slice_get}
 use Rattle.std.specs.List.{list_all, list_any, sum_by}
 use Rattle.std.specs.Str.{bytes_eq}
 use Rattle.up_model.specs.declared.entry.Call.{Call}
 use Rattle.up_model.specs.declared.entry.Call.TheVariants as calls
 use Rattle.up_words.specs.Names.{is_name}
-use Rattle.up_script.specs.Actions.{object_of, is_bound, kind_of, bytes_of}
+use Rattle.up_script.specs.Actions.{object_of, is_bound, kind_of, bytes_of, suits_mode}
 use Rattle.up_script.specs.Declarations.{may_serve}
-use Rattle.up_script.specs.Objects.{is_user, is_pager, is_worker, is_evictor, has_image}
+use Rattle.up_script.specs.Objects.{is_user, is_pager, is_worker, is_evictor, has_image, is_numbered}
 use Rattle.up_script.specs.Reading.{script_of}
 use Rattle.up_script.specs.Sound.{is_within}
+use Rattle.up_script.specs.Versions.{is_version, has_modes}
 use Rattle.up_script.specs.declared.script.Action.{Action}
 use Rattle.up_script.specs.declared.script.Action.TheVariants as actions
 use Rattle.up_script.specs.declared.script.ActorLine.{ActorLine}
@@ -46,6 +47,10 @@ images_of (object ∷ objects) = name_in object.image ++ images_of objects
 abbrev pub names_its_image : ObjectLine → Bool
 names_its_image object = cond object.birth.image (is_some object.image) (not (is_some object.image))
 
+-- an object is numbered only where objects have a mode
+abbrev pub is_in_version : ℕ → ObjectLine → Bool
+is_in_version version object = has_modes version || not object.birth.numbered
+
 -- an actor has a name, and acts on different objects of those that there are: a raw pager on ones without image, a worker on ones with
 abbrev pub is_fit_actor : List ObjectLine → ActorLine → Bool
 is_fit_actor objects actor =
@@ -59,7 +64,7 @@ may_call kind (calls.Supply range bytes brought) = is_pager kind
 may_call kind (calls.Fail range code) = is_pager kind
 may_call kind (calls.Dirty range brought) = is_pager kind
 may_call kind (calls.Begin range zero) = is_pager kind
-may_call kind (calls.End range) = is_pager kind
+may_call kind (calls.End range of) = is_pager kind
 may_call kind (calls.Query range room) = is_pager kind
 may_call kind (calls.Stats reset) = is_pager kind
 may_call kind (calls.Hint range hint) = is_user kind
@@ -84,19 +89,22 @@ may_do kind (actions.Sync object) = is_user kind
 may_do kind (actions.Turn object steps) = is_worker kind
 may_do kind _ = is_evictor kind
 
--- a sync is on an object with image
-abbrev pub has_its_image : List ObjectLine → Action → Bool
-has_its_image objects (actions.Sync object) = has_image objects object
-has_its_image objects _ = true
+-- a sync is on an object with image, and an end has a number exactly where its object is numbered
+abbrev pub suits_object : List ObjectLine → Action → Bool
+suits_object objects (actions.Sync object) = has_image objects object
+suits_object objects (actions.Act object call) = suits_mode (is_numbered objects object) call
+suits_object objects _ = true
 
 -- the line is its actor's, which is bound to the object that it is on, and the object is as the line needs it
 abbrev pub is_fit_line : List ObjectLine → List ActorLine → Line → Bool
 is_fit_line objects actors line =
     may_do (kind_of (slice_get actors line.actor)) line.action
-    && (is_bound (slice_get actors line.actor) (object_of line.action) && has_its_image objects line.action)
+    && (is_bound (slice_get actors line.actor) (object_of line.action) && suits_object objects line.action)
 
 -- what holds of every script
 pub record Fits (script : Script) : Type 0 where
+  pub version : is_version script.version ≡ true
+  pub modes : list_all (is_in_version script.version) script.objects ≡ true
   pub frames : are_fit_frames script.frames script.loan script.warn script.critical ≡ true
   pub names : are_unlike bytes_eq (names_of script.objects script.actors) ≡ true
   pub images : are_unlike bytes_eq (images_of script.objects) ≡ true

@@ -10,7 +10,7 @@ use Rattle.up_script.specs.Reading.{script_of, line_step, last_step}
 use Rattle.up_script.specs.Sound.{is_sound_action}
 use Rattle.up_script.specs.Text.{action_words, object_names, script_text}
 use Rattle.up_script.specs.Verbs.{verb_of, says}
-use Rattle.up_script.specs.Whole.{has_bytes, LeavesAs, HasText}
+use Rattle.up_script.specs.Whole.{has_bytes, is_spoken_in, LeavesAs, HasText}
 use Rattle.up_script.specs.declared.declarations.Declared.{Declared}
 use Rattle.up_script.specs.declared.reading.Stage.{Stage}
 use Rattle.up_script.specs.declared.reading.Stage.TheVariants.{Header}
@@ -29,16 +29,16 @@ ReadsItsOwnText = (bytes : List ℕ) (script : Script) → script_of bytes ≡ O
 
 -- words that an actor of this kind is read to say this action by, with a verb that is its own
 abbrev pub IsReadAs : Declared → Kind → List (List ℕ) → Action → Type 0
-IsReadAs declared kind words action = (verb : Verb) × (verb_of words ≡ Some verb) × (action_in declared kind verb words ≡ Ok action) × (says verb kind ≡ true)
+IsReadAs declared kind words action = (verb : Verb) × (verb_of declared.version words ≡ Some verb) × (action_in declared kind verb words ≡ Ok action) × (says verb kind ≡ true)
 
 -- an action that keeps the limits is read from its words, behind any actor's name, by those whose it is
 abbrev pub ReadsItsAction : Type 0
 ReadsItsAction = (declared : Declared) (kind : Kind) (name : List ℕ) (action : Action) → are_unlike bytes_eq (object_names declared.objects) ≡ true → is_sound_action (length declared.objects) action ≡ true
-    → has_bytes action ≡ true → LeavesAs kind action → may_do kind action ≡ true → IsReadAs declared kind (name ∷ action_words (object_names declared.objects) action) action
+    → has_bytes action ≡ true → is_spoken_in declared.version action ≡ true → LeavesAs kind action → may_do kind action ≡ true → IsReadAs declared kind (name ∷ action_words (object_names declared.objects) action) action
 
 -- and from no others
 abbrev pub ReadsOnlyItsAction : Type 0
-ReadsOnlyItsAction = (declared : Declared) (kind : Kind) (verb : Verb) (words : List (List ℕ)) (action : Action) → verb_of words ≡ Some verb → action_in declared kind verb words ≡ Ok action
+ReadsOnlyItsAction = (declared : Declared) (kind : Kind) (verb : Verb) (words : List (List ℕ)) (action : Action) → verb_of declared.version words ≡ Some verb → action_in declared kind verb words ≡ Ok action
     → words ≡ word_at words 0 ∷ action_words (object_names declared.objects) action
 
 -- these lines, of which the first has number n, lead from one stage to another without a fault

@@ -8,4 +8,5 @@ pub mod Sound
 pub mod Stages
 pub mod Text
 pub mod Verbs
+pub mod Versions
 pub mod Whole

@@ -53,6 +53,14 @@ is_imaged (Some object) = object.birth.image
 abbrev pub has_image : List ObjectLine → ℕ → Bool
 has_image objects object = is_imaged (slice_get objects object)
 
+abbrev pub is_numbered_line : Option ObjectLine → Bool
+is_numbered_line None = false
+is_numbered_line (Some object) = object.birth.numbered
+
+-- the object of this number is numbered
+abbrev pub is_numbered : List ObjectLine → ℕ → Bool
+is_numbered objects object = is_numbered_line (slice_get objects object)
+
 -- the number is among these
 abbrev pub is_among : List ℕ → ℕ → Bool
 is_among numbers number = list_any (λ n. n == number) numbers
@@ -81,6 +89,7 @@ with_counts actors object line = record {
     users = users_of actors object;
     pagers = pagers_of actors object;
     image = line.birth.image;
+    numbered = line.birth.numbered;
   };
   image = line.image;
 }

@@ -1,13 +1,13 @@
 -- What script a text spells, or its first fault.
 use Rattle.std.specs.Prelude.{ℕ, ◌==◌, Bool, true, cond, List, [], ◌∷◌, Result, Ok, Err, codes, length, nat_le}
-use Rattle.std.specs.Str.{bytes_eq}
-use Rattle.up_words.specs.Steps.{◌>>=◌, check, lines_from}
+use Rattle.up_words.specs.Steps.{◌>>=◌, check, or_why, lines_from}
 use Rattle.up_words.specs.Words.{split, verb_is, words_in}
 use Rattle.up_words.specs.declared.fault.Fault.{Fault}
 use Rattle.up_words.specs.declared.fault.Why.{Why}
 use Rattle.up_words.specs.declared.fault.Why.TheVariants as why
 use Rattle.up_script.specs.Declarations.{nothing_declared, declaration_line, is_whole, with_all_counted}
 use Rattle.up_script.specs.Actions.{act}
+use Rattle.up_script.specs.Versions.{version_in}
 use Rattle.up_script.specs.declared.declarations.Declared.{Declared}
 use Rattle.up_script.specs.declared.played.Played.{Played}
 use Rattle.up_script.specs.declared.reading.Stage.{Stage}
@@ -36,9 +36,9 @@ abbrev pub is_skipped : List ℕ → Bool
 is_skipped [] = true
 is_skipped (byte ∷ bytes) = byte == 35
 
--- the first line is fixed; the others are skipped, or made of words
+-- the first line says the version; the others are skipped, or made of words
 abbrev pub content : ℕ → Stage → List ℕ → Result Stage Why
-content number Header line = cond (bytes_eq line (codes "pagerd-script 1")) (Ok (Declaring nothing_declared)) (Err why.Header)
+content number Header line = or_why why.Header (version_in line) >>= λ version. Ok (Declaring (nothing_declared version))
 content number stage line = cond (is_skipped line) (Ok stage) (words_in line >>= λ words. stage_step number stage words)
 
 -- a line with its number: not too long, not too many, and what it says
@@ -51,6 +51,7 @@ line_step number stage line = do
 -- the frames, the objects, their actors and the lines
 abbrev pub script_in : Declared → Played → Script
 script_in declared played = record {
+  version = declared.version;
   frames = declared.stock.frames;
   frames_line = declared.stock.frames_line;
   loan = declared.stock.loan;

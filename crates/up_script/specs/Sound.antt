@@ -25,6 +25,11 @@ abbrev pub brings_nothing : Brought → Bool
 brings_nothing Nothing = true
 brings_nothing _ = false
 
+-- a begin's number, where there is one, is at most 2^64 - 1
+abbrev pub is_sound_number : Option ℕ → Bool
+is_sound_number None = true
+is_sound_number (Some n) = nat_le n 18446744073709551615
+
 -- a call that a line may name: in its limits, and it brings nothing yet
 abbrev pub is_sound_call : Call → Bool
 is_sound_call (calls.Supply range bytes brought) =
@@ -32,7 +37,7 @@ is_sound_call (calls.Supply range bytes brought) =
 is_sound_call (calls.Fail range code) = is_sound_range range
 is_sound_call (calls.Dirty range brought) = is_sound_range range && brings_nothing brought
 is_sound_call (calls.Begin range zero) = is_sound_range range
-is_sound_call (calls.End range) = is_sound_range range
+is_sound_call (calls.End range of) = is_sound_range range && is_sound_number of
 is_sound_call (calls.Query range room) = is_sound_range range && nat_le room 65536
 is_sound_call (calls.Stats reset) = true
 is_sound_call (calls.Hint range kind) = is_sound_range range

@@ -9,6 +9,7 @@ use Rattle.up_model.specs.declared.entry.HintKind.TheVariants as hints
 use Rattle.up_words.specs.Words.{word_at}
 use Rattle.up_words.specs.Runs.{bytes_text}
 use Rattle.up_fields.specs.Text.{line_text, flag_text, code_text}
+use Rattle.up_script.specs.Versions.{has_modes, first_line}
 use Rattle.up_script.specs.declared.script.Action.{Action}
 use Rattle.up_script.specs.declared.script.Action.TheVariants as actions
 use Rattle.up_script.specs.declared.script.ActorLine.{ActorLine}
@@ -30,9 +31,9 @@ and_line text number words = record {
   bytes = text.bytes ++ (replicate (number - text.next) 10 ++ line_text words);
 }
 
--- the first line
-abbrev pub header_written : Written
-header_written = record { next = 2; bytes = codes "pagerd-script 1\n" }
+-- the first line, of this version
+abbrev pub header_written : ℕ → Written
+header_written version = record { next = 2; bytes = first_line version ++ 10 ∷ [] }
 
 -- frames N
 abbrev pub frames_words : ℕ → List (List ℕ)
@@ -58,10 +59,10 @@ are_usual frames warn critical = (warn == frames / 4) && (critical == frames / 8
 abbrev pub and_levels : Written → ℕ → ℕ → ℕ → Written
 and_levels text frames warn critical = cond (are_usual frames warn critical) text (and_line text 0 (levels_words warn critical))
 
--- the lines before the objects, by the frames and their line, the loaned frames and their line, and the marks
-abbrev pub stock_written : ℕ → ℕ → ℕ → ℕ → ℕ → ℕ → Written
-stock_written frames frames_line loan loan_line warn critical =
-    and_levels (and_loan (and_line header_written frames_line (frames_words frames)) loan_line loan) frames warn critical
+-- the lines before the objects, by the version, the frames and their line, the loaned frames and their line, and the marks
+abbrev pub stock_written : ℕ → ℕ → ℕ → ℕ → ℕ → ℕ → ℕ → Written
+stock_written version frames frames_line loan loan_line warn critical =
+    and_levels (and_loan (and_line (header_written version) frames_line (frames_words frames)) loan_line loan) frames warn critical
 
 -- the greatest number of pages, or - where the size is fixed
 abbrev pub limit_text : Option ℕ → List ℕ
@@ -73,17 +74,21 @@ abbrev pub image_text : Option (List ℕ) → List ℕ
 image_text None = codes "-"
 image_text (Some name) = name
 
--- object NAME PAGES LIMIT TRAP IMAGE
-abbrev pub object_words : ObjectLine → List (List ℕ)
-object_words object =
+-- the mode of an object, where objects have one
+abbrev pub mode_words : ℕ → Bool → List (List ℕ)
+mode_words version numbered = cond (has_modes version) (flag_text (codes "numbered") (codes "ranged") numbered ∷ []) []
+
+-- object NAME PAGES LIMIT TRAP IMAGE, in version 2 with MODE
+abbrev pub object_words : ℕ → ObjectLine → List (List ℕ)
+object_words version object =
     codes "object" ∷ object.name ∷ decimal object.birth.pages ∷ limit_text object.birth.limit ∷ flag_text (codes "trap") (codes "free") object.birth.trap
-    ∷ image_text object.image ∷ []
+    ∷ image_text object.image ∷ mode_words version object.birth.numbered
 
-abbrev pub and_object : Written → ObjectLine → Written
-and_object text object = and_line text object.number (object_words object)
+abbrev pub and_object : ℕ → Written → ObjectLine → Written
+and_object version text object = and_line text object.number (object_words version object)
 
-abbrev pub objects_written : Written → List ObjectLine → Written
-objects_written text objects = fold and_object text objects
+abbrev pub objects_written : ℕ → Written → List ObjectLine → Written
+objects_written version text objects = fold (and_object version) text objects
 
 -- the first word of an actor's declaration
 abbrev pub kind_text : Kind → List ℕ
@@ -111,13 +116,18 @@ actors_written names text actors = fold (and_actor names) text actors
 abbrev pub over_words : List ℕ → List ℕ → Span → List (List ℕ) → List (List ℕ)
 over_words verb object range more = verb ∷ object ∷ decimal range.first ∷ decimal range.count ∷ more
 
+-- the number of the begin that an end names, where it names one
+abbrev pub number_words : Option ℕ → List (List ℕ)
+number_words None = []
+number_words (Some n) = decimal n ∷ []
+
 -- a call's words behind its actor's name, with the name of its object. Calls that no line names have none
 abbrev pub call_words : List ℕ → Call → List (List ℕ)
 call_words object (calls.Supply range bytes brought) = over_words (codes "supply") object range (bytes_text bytes ∷ [])
 call_words object (calls.Fail range code) = over_words (codes "fail") object range (code_text code ∷ [])
 call_words object (calls.Dirty range brought) = over_words (codes "dirty") object range []
 call_words object (calls.Begin range zero) = over_words (codes "begin") object range (flag_text (codes "zero") (codes "any") zero ∷ [])
-call_words object (calls.End range) = over_words (codes "end") object range []
+call_words object (calls.End range of) = over_words (codes "end") object range (number_words of)
 call_words object (calls.Query range room) = over_words (codes "query") object range (decimal room ∷ [])
 call_words object (calls.Stats reset) = codes "stats" ∷ object ∷ flag_text (codes "reset") (codes "keep") reset ∷ []
 call_words object (calls.Hint range hints.Always) = over_words (codes "always") object range []
@@ -164,8 +174,8 @@ abbrev pub actor_names : List ActorLine → List (List ℕ)
 actor_names actors = map (λ actor. actor.name) actors
 
 -- the declarations behind the lines of the frames
-abbrev pub declared_written : Written → List ObjectLine → List ActorLine → Written
-declared_written stock objects actors = actors_written (object_names objects) (objects_written stock objects) actors
+abbrev pub declared_written : ℕ → Written → List ObjectLine → List ActorLine → Written
+declared_written version stock objects actors = actors_written (object_names objects) (objects_written version stock objects) actors
 
 -- the line steps, the next one behind the declarations, and the lines of the actors behind it
 abbrev pub acted_written : Written → List ObjectLine → List ActorLine → List Line → Written
@@ -174,6 +184,6 @@ acted_written declared objects actors lines =
 
 abbrev pub script_text : Script → List ℕ
 script_text script =
-    let stock = stock_written script.frames script.frames_line script.loan script.loan_line script.warn script.critical in
-    let written = acted_written (declared_written stock script.objects script.actors) script.objects script.actors script.lines in
+    let stock = stock_written script.version script.frames script.frames_line script.loan script.loan_line script.warn script.critical in
+    let written = acted_written (declared_written script.version stock script.objects script.actors) script.objects script.actors script.lines in
     written.bytes

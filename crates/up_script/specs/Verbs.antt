@@ -10,6 +10,7 @@ use Rattle.up_model.specs.declared.entry.HintKind.TheVariants as hints
 use Rattle.up_model.specs.declared.entry.Role.{Role}
 use Rattle.up_model.specs.declared.entry.Role.TheVariants as roles
 use Rattle.up_words.specs.Words.{word_at, word_is, verb_is}
+use Rattle.up_script.specs.Versions.{has_modes}
 use Rattle.up_script.specs.Objects.{is_user, is_pager, is_worker, is_evictor}
 use Rattle.up_script.specs.declared.script.Kind.{Kind}
 use Rattle.up_script.specs.declared.verbs.Lone.{Lone}
@@ -40,9 +41,9 @@ user_verb words =
     (cond (verb_is words 1 (codes "sync") 3) (Some on.Sync)
     (cond (verb_is words 1 (codes "leave") 3) (Some on.Leave) None)))))))))
 
--- what raw pagers do
-abbrev pub pager_verb : List (List ℕ) → Option On
-pager_verb words =
+-- what raw pagers do; from version 2 on an end may name its begin
+abbrev pub pager_verb : ℕ → List (List ℕ) → Option On
+pager_verb version words =
     cond (verb_is words 1 (codes "packet") 3) (Some on.Packet)
     (cond (verb_is words 1 (codes "supply") 6) (Some on.Supply)
     (cond (verb_is words 1 (codes "fail") 6) (fail_verb (code_in (word_at words 5)))
@@ -50,10 +51,11 @@ pager_verb words =
     (cond (verb_is words 1 (codes "begin") 6 && word_is words 5 (codes "any")) (Some (on.Range (over.Begin false)))
     (cond (verb_is words 1 (codes "begin") 6 && word_is words 5 (codes "zero")) (Some (on.Range (over.Begin true)))
     (cond (verb_is words 1 (codes "end") 5) (Some (on.Range over.End))
+    (cond (verb_is words 1 (codes "end") 6 && has_modes version) (Some on.EndOf)
     (cond (verb_is words 1 (codes "query") 6) (Some on.Query)
     (cond (verb_is words 1 (codes "stats") 4 && word_is words 3 (codes "keep")) (Some (on.Stats false))
     (cond (verb_is words 1 (codes "stats") 4 && word_is words 3 (codes "reset")) (Some (on.Stats true))
-    (cond (verb_is words 1 (codes "detach") 3) (Some on.Detach) None))))))))))
+    (cond (verb_is words 1 (codes "detach") 3) (Some on.Detach) None)))))))))))
 
 -- what workers and evictors do on an object
 abbrev pub other_verb : List (List ℕ) → Option On
@@ -82,9 +84,9 @@ or_lone (Some verb) second = Some (OnObject verb)
 or_lone None (Some verb) = Some (Alone verb)
 or_lone None None = None
 
--- the verb of a line, by its second word, its number of words and its fixed words
-abbrev pub verb_of : List (List ℕ) → Option Verb
-verb_of words = or_lone (or_on (user_verb words) (or_on (pager_verb words) (other_verb words))) (lone_verb words)
+-- the verb of a line in a script of this version, by its second word, its number of words and its fixed words
+abbrev pub verb_of : ℕ → List (List ℕ) → Option Verb
+verb_of version words = or_lone (or_on (user_verb words) (or_on (pager_verb version words) (other_verb words))) (lone_verb words)
 
 -- whose verbs these are
 abbrev pub is_user_range : Over → Bool
@@ -123,7 +125,7 @@ call_over over.Pin range = calls.Pin range Nothing
 call_over over.Unpin range = calls.Unpin range
 call_over over.Zero range = calls.Zero range
 call_over over.Dirty range = calls.Dirty range Nothing
-call_over over.End range = calls.End range
+call_over over.End range = calls.End range None
 call_over (over.Fail code) range = calls.Fail range code
 call_over (over.Begin zero) range = calls.Begin range zero
 

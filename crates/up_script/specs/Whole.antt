@@ -1,5 +1,5 @@
 -- Scripts that have a text: they keep every limit, also those of a text.
-use Rattle.std.specs.Prelude.{◌≡◌, ℕ, ◌≤◌, ◌==◌, ◌&&◌, Bool, true, cond, not, List, [], ◌∷◌, codes, length, nat_le, nat_lt, slice_get}
+use Rattle.std.specs.Prelude.{◌≡◌, ℕ, ◌≤◌, ◌==◌, ◌&&◌, Bool, true, cond, not, List, [], ◌∷◌, Some, codes, length, nat_le, nat_lt, slice_get}
 use Rattle.std.specs.List.{list_all}
 use Rattle.std.specs.Str.{bytes_eq}
 use Rattle.up_model.specs.declared.entry.Call.TheVariants as calls
@@ -12,6 +12,7 @@ use Rattle.up_script.specs.Objects.{counted}
 use Rattle.up_script.specs.Sound.{is_sound}
 use Rattle.up_script.specs.Text.{Written, and_line, header_written, frames_words, loan_words, and_loan, are_usual, levels_words, stock_written, object_words, objects_written, actor_words, line_words, object_names, actor_names, declared_written, script_text}
 use Rattle.up_script.specs.Verbs.{role_of}
+use Rattle.up_script.specs.Versions.{has_modes}
 use Rattle.up_script.specs.declared.played.LeftObject.{LeftObject}
 use Rattle.up_script.specs.declared.script.Action.{Action}
 use Rattle.up_script.specs.declared.script.Action.TheVariants as actions
@@ -26,6 +27,11 @@ abbrev pub has_bytes : Action → Bool
 has_bytes (actions.Write object off bytes) = list_all is_byte bytes
 has_bytes (actions.Act object (calls.Supply range bytes brought)) = list_all is_byte bytes
 has_bytes _ = true
+
+-- an end names its begin only where objects have a mode
+abbrev pub is_spoken_in : ℕ → Action → Bool
+is_spoken_in version (actions.Act object (calls.End range (Some n))) = has_modes version
+is_spoken_in version _ = true
 
 -- a leave is in the role in which an actor of this kind leaves
 abbrev pub LeavesAs : Kind → Action → Type 0
@@ -68,13 +74,13 @@ levels_fit text frames warn critical = cond (are_usual frames warn critical) tru
 
 -- the text of a script's frames, of its declarations, and of the line behind them
 abbrev pub frames_of : Script → Written
-frames_of script = and_line header_written script.frames_line (frames_words script.frames)
+frames_of script = and_line (header_written script.version) script.frames_line (frames_words script.frames)
 
 abbrev pub stock_in : Script → Written
-stock_in script = stock_written script.frames script.frames_line script.loan script.loan_line script.warn script.critical
+stock_in script = stock_written script.version script.frames script.frames_line script.loan script.loan_line script.warn script.critical
 
 abbrev pub declared_in : Script → Written
-declared_in script = declared_written (stock_in script) script.objects script.actors
+declared_in script = declared_written script.version (stock_in script) script.objects script.actors
 
 abbrev pub steps_in : Script → Written
 steps_in script = and_line (declared_in script) 0 (codes "steps" ∷ [])
@@ -84,11 +90,11 @@ steps_in script = and_line (declared_in script) 0 (codes "steps" ∷ [])
 pub record HasText (script : Script) : Type 0 where
   pub fits : Fits script
   pub sound : is_sound script ≡ true
-  pub frames : fits_in header_written script.frames_line (frames_words script.frames) ≡ true
+  pub frames : fits_in (header_written script.version) script.frames_line (frames_words script.frames) ≡ true
   pub loan : loan_fits (frames_of script) script.loan_line script.loan ≡ true
   pub levels : levels_fit (and_loan (frames_of script) script.loan_line script.loan) script.frames script.warn script.critical ≡ true
-  pub objects : all_fit (λ object. object.number) object_words (stock_in script) script.objects ≡ true
-  pub actors : all_fit (λ actor. actor.number) (actor_words (object_names script.objects)) (objects_written (stock_in script) script.objects) script.actors ≡ true
+  pub objects : all_fit (λ object. object.number) (object_words script.version) (stock_in script) script.objects ≡ true
+  pub actors : all_fit (λ actor. actor.number) (actor_words (object_names script.objects)) (objects_written script.version (stock_in script) script.objects) script.actors ≡ true
   pub steps : fits_in (declared_in script) (declared_in script).next (codes "steps" ∷ []) ≡ true
   pub lines : all_fit (λ line. line.number) (line_words (object_names script.objects) (actor_names script.actors)) (steps_in script) script.lines ≡ true
   pub counts : counted script.actors script.objects ≡ script.objects

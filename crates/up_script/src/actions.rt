@@ -2,7 +2,7 @@ ghost use Rattle.std.specs.Prelude.{◌≡◌, ◌<◌, ◌≤◌, true, length,
 ghost use Rattle.up_words.specs.Steps.{Gives, or_why};
 ghost use Rattle.up_words.specs.declared.fault.Why.TheVariants.{Word};
 ghost use Rattle.up_script.specs.Verbs.{verb_of};
-ghost use Rattle.up_script.specs.Actions.{actor_in, has_what_it_needs, may_act, bytes_of, with_line, act};
+ghost use Rattle.up_script.specs.Actions.{actor_in, suits_mode, has_what_it_needs, may_act, bytes_of, with_line, act};
 ghost use Rattle.up_script.specs.Sound.{are_sound_lines};
 
 use crate::declarations::Declared;
@@ -11,12 +11,13 @@ use crate::played::{Played, note_leave};
 use crate::script::{Action, Line};
 use crate::verbs::{Verb, read_verb};
 use std::alloc::Global;
+use up_model::Call;
 use up_words::{Stop, Why, Words};
 
-fn read_known_verb(words: &Words<'_>) -> Result<Verb, Stop>
-    ensures { Gives (λ verb. verb) result (or_why Word (verb_of words.now)) }
+fn read_known_verb(version: u32, words: &Words<'_>) -> Result<Verb, Stop>
+    ensures { Gives (λ verb. verb) result (or_why Word (verb_of version words.now)) }
 {
-    match read_verb(words) {
+    match read_verb(version, words) {
         None => Err(Stop::Found(Why::Word)),
         Some(verb) => Ok(verb),
     }
@@ -32,11 +33,21 @@ fn read_actor(declared: &Declared, word: &[u8]) -> Result<u32, Stop>
     }
 }
 
+fn suits_mode(numbered: bool, call: &Call) -> bool
+    ensures { result ≡ suits_mode numbered call.now }
+{
+    match call {
+        Call::End { of, .. } => of.is_some() == numbered,
+        _ => true,
+    }
+}
+
 fn has_needs(declared: &Declared, action: &Action) -> bool
     ensures { result ≡ has_what_it_needs declared.now action.now }
 {
     match action {
         Action::Sync { object } => declared.objects.has_image(*object),
+        Action::Act { object, call } => suits_mode(declared.objects.is_numbered(*object), call),
         _ => true,
     }
 }
@@ -80,7 +91,7 @@ pub fn read_action(
     ensures sound { are_sound_lines (length declared.now.objects) (length declared.now.actors) played.lines ≡ true
         → IfOk result (λ more. are_sound_lines (length declared.now.objects) (length declared.now.actors) more.lines ≡ true) }
 {
-    let verb = read_known_verb(words)?;
+    let verb = read_known_verb(declared.version, words)?;
     let actor = read_actor(declared, words.at(0))?;
     let action = read_by_verb(alloc, declared, declared.actors.kind_of(actor), verb, words)?;
     if !is_role(declared, actor, verb, &action) {

@@ -4,11 +4,12 @@ ghost use Rattle.up_script.specs.Objects.{is_served};
 ghost use Rattle.up_script.specs.Sound.{is_sound_limit, is_sound_image, are_sound_objects};
 ghost use Rattle.std.specs.List.{list_all};
 ghost use Rattle.up_words.specs.Steps.{Gives, each};
-ghost use Rattle.up_script.specs.Declarations.{is_first, may_loan, may_level, may_object, nothing_declared, frames_line, loan_line, levels_line, new_name, limit_in, image_in, object_line, object_in, bind_step, may_serve, with_actor, bound_line, first_numbers, evictor_line, binds, actor_line, is_trap_word, declaration_line, is_whole, with_all_counted};
+ghost use Rattle.up_script.specs.Declarations.{is_first, may_loan, may_level, may_object, nothing_declared, frames_line, loan_line, levels_line, new_name, limit_in, image_in, object_line, object_in, bind_step, may_serve, with_actor, bound_line, first_numbers, evictor_line, binds, actor_line, is_trap_word, says_numbered, says_object, declaration_line, is_whole, with_all_counted};
 
 use crate::actors::{Actors, is_in};
 use crate::objects::Objects;
 use crate::script::{ActorLine, Kind, Numbers, ObjectLine};
+use crate::versions::{has_modes, object_size, says_mode};
 use std::alloc::Global;
 use up_model::Birth;
 use up_num::{Bytes, Items, Memory};
@@ -42,6 +43,7 @@ pub struct Stock {
 /// What the declarations so far say.
 #[derive(Debug, Drop)]
 pub struct Declared {
+    pub version: u32,
     pub last: Last,
     pub stock: Stock,
     pub objects: Objects,
@@ -76,10 +78,11 @@ impl Last {
 
 impl Declared {
     /// Nothing is declared yet.
-    pub fn new(alloc: Global) -> Declared
-        ensures { result ≡ nothing_declared }
+    pub fn new(alloc: Global, version: u32) -> Declared
+        ensures { result ≡ nothing_declared version }
     {
         Declared {
+            version,
             last: Last::Nothing,
             stock: Stock {
                 frames: 0,
@@ -118,6 +121,7 @@ impl Declared {
         ensures sound { IfOk result (λ made. is_whole made ≡ true → are_sound_objects made.objects ≡ true) }
     {
         let Declared {
+            version,
             last,
             stock,
             objects,
@@ -125,6 +129,7 @@ impl Declared {
         } = self;
         let objects = objects.counted(alloc, &actors)?;
         Ok(Declared {
+            version,
             last,
             stock,
             objects,
@@ -220,6 +225,12 @@ fn read_image(alloc: Global, declared: &Declared, word: &[u8]) -> Result<Option<
     Ok(Some(image))
 }
 
+fn says_numbered(version: u32, words: &Words<'_>) -> bool
+    ensures { result ≡ says_numbered version words.now }
+{
+    has_modes(version) && words.reads(6, b"numbered")
+}
+
 fn read_object(
     alloc: Global,
     line: u32,
@@ -242,8 +253,10 @@ fn read_object(
         users: 0,
         pagers: 0,
         image: image.is_some(),
+        numbered: says_numbered(declared.version, words),
     };
     let Declared {
+        version,
         last: _,
         stock,
         objects,
@@ -256,6 +269,7 @@ fn read_object(
         image,
     })?;
     Ok(Declared {
+        version,
         last: Last::Object,
         stock,
         objects,
@@ -308,6 +322,7 @@ fn add_actor(declared: Declared, actor: ActorLine) -> Result<Declared, Stop>
         return Err(Stop::Found(Why::Limit));
     }
     let Declared {
+        version,
         last: _,
         stock,
         objects,
@@ -315,6 +330,7 @@ fn add_actor(declared: Declared, actor: ActorLine) -> Result<Declared, Stop>
     } = declared;
     let actors = actors.push(actor)?;
     Ok(Declared {
+        version,
         last: Last::Actor,
         stock,
         objects,
@@ -413,6 +429,14 @@ fn says_trap(word: &[u8]) -> bool
     word == b"trap".as_slice() || word == b"free".as_slice()
 }
 
+fn says_object(version: u32, words: &Words<'_>) -> bool
+    ensures { result ≡ says_object version words.now }
+{
+    words.has(0, b"object", object_size(version))
+        && says_trap(words.at(4))
+        && says_mode(version, words.at(6))
+}
+
 /// A line that declares frames, an object or an actor.
 pub fn read_declaration(
     alloc: Global,
@@ -428,7 +452,7 @@ pub fn read_declaration(
         read_loan(line, declared, words)
     } else if words.has(0, b"levels", 3) && declared.last.may_level() {
         read_levels(declared, words)
-    } else if words.has(0, b"object", 6) && says_trap(words.at(4)) && declared.last.may_object() {
+    } else if says_object(declared.version, words) && declared.last.may_object() {
         read_object(alloc, line, declared, words)
     } else if declared.last.is_first() {
         Err(Stop::Found(Why::Word))

@@ -1,6 +1,6 @@
 ghost use Rattle.std.specs.Prelude.{◌≡◌, ◌<◌, ◌≤◌, true, length, IfOk};
 ghost use Rattle.up_words.specs.Steps.{Gives};
-ghost use Rattle.up_script.specs.Actions.{range_in, read_fields, write_fields, supply_fields, range_fields, query_fields, resize_fields, turn_fields, evict_fields, borrow_fields, fields_of, alone_of, action_in};
+ghost use Rattle.up_script.specs.Actions.{range_in, read_fields, write_fields, supply_fields, range_fields, end_fields, query_fields, resize_fields, turn_fields, evict_fields, borrow_fields, fields_of, alone_of, action_in};
 ghost use Rattle.up_script.specs.Sound.{is_sound_range, is_sound_action};
 
 use crate::declarations::Declared;
@@ -79,6 +79,20 @@ fn read_over(verb: Over, objects: u32, object: u32, words: &Words<'_>) -> Result
     Ok(Action::Act { object, call })
 }
 
+fn read_end(objects: u32, object: u32, words: &Words<'_>) -> Result<Action, Stop>
+    requires { object < objects }
+    ensures value { Gives (λ action. action) result (end_fields object words.now) }
+    ensures sound { IfOk result (λ action. is_sound_action objects action ≡ true) }
+{
+    let range = read_range(words, 3)?;
+    let of = read_between(0, u64::MAX, words.at(5))?;
+    let call = Call::End {
+        range,
+        of: Some(of),
+    };
+    Ok(Action::Act { object, call })
+}
+
 fn read_query(objects: u32, object: u32, words: &Words<'_>) -> Result<Action, Stop>
     requires { object < objects }
     ensures value { Gives (λ action. action) result (query_fields object words.now) }
@@ -151,6 +165,7 @@ fn read_fields(
         On::Write => read_write(alloc, objects, object, words),
         On::Supply => read_supply(alloc, objects, object, words),
         On::Range(call) => read_over(call, objects, object, words),
+        On::EndOf => read_end(objects, object, words),
         On::Query => read_query(objects, object, words),
         On::Resize => read_resize(objects, object, words),
         On::Turn => read_turn(objects, object, words),

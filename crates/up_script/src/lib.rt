@@ -11,6 +11,7 @@ mod played;
 mod reading;
 mod script;
 mod verbs;
+mod versions;
 
 pub use laws::{
     a_script_is_read_from_its_text, an_action_is_read_from_its_words, the_first_fault_is_named,

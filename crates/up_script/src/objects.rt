@@ -1,6 +1,6 @@
 ghost use Rattle.std.specs.Prelude.{◌≡◌, ◌≤◌, ◌<◌, [], ◌∷◌, ◌++◌, true, false, length, IsTrue, ◌↔◌, IfSome, IfOk, IfErr};
 ghost use Rattle.std.specs.List.{fold, list_all, list_any};
-ghost use Rattle.up_script.specs.Objects.{object_named, is_image, image_named, has_image, is_among, with_counts, count_step, counted, is_served};
+ghost use Rattle.up_script.specs.Objects.{object_named, is_image, image_named, has_image, is_numbered, is_among, with_counts, count_step, counted, is_served};
 ghost use Rattle.up_script.specs.Sound.{is_fair_object, is_few};
 ghost use Rattle.up_words.specs.declared.fault.Stop.TheVariants.{Memory as MemoryStop};
 
@@ -69,6 +69,16 @@ impl Objects {
         match self.items.as_slice().get(object as usize) {
             None => false,
             Some(line) => line.birth.image,
+        }
+    }
+
+    /// The object of this number is numbered.
+    pub fn is_numbered(&self, object: u32) -> bool
+        ensures { result ≡ is_numbered self.now object }
+    {
+        match self.items.as_slice().get(object as usize) {
+            None => false,
+            Some(line) => line.birth.numbered,
         }
     }
 
@@ -144,6 +154,7 @@ fn count_line(actors: &Actors, object: u32, line: ObjectLine) -> ObjectLine
         users: actors.users_of(object),
         pagers: actors.pagers_of(object),
         image: birth.image,
+        numbered: birth.numbered,
     };
     ObjectLine {
         number,

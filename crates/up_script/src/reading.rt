@@ -10,6 +10,7 @@ use crate::actions::read_action;
 use crate::declarations::{Declared, read_declaration};
 use crate::played::Played;
 use crate::script::Script;
+use crate::versions::read_version;
 use std::alloc::Global;
 use up_words::{ReadFault, Stop, Why, Words, front, read_words};
 
@@ -76,10 +77,10 @@ fn read_content(alloc: Global, number: u32, stage: Stage, line: &[u8]) -> Result
     ensures sound { is_sound_stage stage ≡ true → IfOk result (λ next. is_sound_stage next ≡ true) }
 {
     if let Stage::Header = stage {
-        if line != b"pagerd-script 1".as_slice() {
-            return Err(Stop::Found(Why::Header));
-        }
-        return Ok(Stage::Declaring(Declared::new(alloc)));
+        return match read_version(line) {
+            None => Err(Stop::Found(Why::Header)),
+            Some(version) => Ok(Stage::Declaring(Declared::new(alloc, version))),
+        };
     }
     if is_passed_over(line) {
         return Ok(stage);
@@ -111,12 +112,14 @@ fn finish(stage: Stage) -> Result<Script, Stop>
         Stage::Declaring(_) => Err(Stop::Found(Why::Missing)),
         Stage::Acting(declared, played) => {
             let Declared {
+                version,
                 last: _,
                 stock,
                 objects,
                 actors,
             } = declared;
             Ok(Script {
+                version,
                 frames: stock.frames,
                 frames_line: stock.frames_line,
                 loan: stock.loan,

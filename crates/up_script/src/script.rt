@@ -14,6 +14,8 @@ pub type Numbers = Items<u32>;
 /// counted from 1; objects and actors are counted from 0, in the order of their lines.
 #[derive(Debug, Drop)]
 pub struct Script {
+    /// 1 or 2. In version 1 all objects are ranged.
+    pub version: u32,
     /// How many ordinary frames there are.
     pub frames: u32,
     /// The line that says so.

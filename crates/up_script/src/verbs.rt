@@ -1,8 +1,11 @@
-ghost use Rattle.std.specs.Prelude.{◌≡◌};
+ghost use Rattle.std.specs.Prelude.{◌≡◌, ◌&&◌, codes};
+ghost use Rattle.up_words.specs.Words.{verb_is};
+ghost use Rattle.up_script.specs.Versions.{has_modes};
 ghost use Rattle.up_words.specs.Refusals.{code_in};
 ghost use Rattle.up_script.specs.Verbs.{or_on, fail_verb, user_verb, pager_verb, other_verb, lone_verb, verb_of, is_user_range, says_on, says_alone, says, call_over, role_of};
 
 use crate::script::Kind;
+use crate::versions::has_modes;
 use up_model::{Brought, Call, HintKind, Role};
 use up_num::{Code, PageRange};
 use up_words::{Words, spelled_code};
@@ -39,6 +42,8 @@ pub enum On {
     Write,
     Supply,
     Range(Over),
+    /// An end that names its begin.
+    EndOf,
     Query,
     Resize,
     Turn,
@@ -96,8 +101,14 @@ fn read_fail_verb(word: &[u8]) -> Option<On>
     }
 }
 
-fn read_pager_verb(words: &Words<'_>) -> Option<On>
-    ensures { result ≡ pager_verb words.now }
+fn names_begin(version: u32, words: &Words<'_>) -> bool
+    ensures { result ≡ (verb_is words.now 1 (codes "end") 6 && has_modes version) }
+{
+    words.has(1, b"end", 6) && has_modes(version)
+}
+
+fn read_pager_verb(version: u32, words: &Words<'_>) -> Option<On>
+    ensures { result ≡ pager_verb version words.now }
 {
     if words.has(1, b"packet", 3) {
         Some(On::Packet)
@@ -113,6 +124,8 @@ fn read_pager_verb(words: &Words<'_>) -> Option<On>
         Some(On::Range(Over::Begin(true)))
     } else if words.has(1, b"end", 5) {
         Some(On::Range(Over::End))
+    } else if names_begin(version, words) {
+        Some(On::EndOf)
     } else if words.has(1, b"query", 6) {
         Some(On::Query)
     } else if words.has(1, b"stats", 4) && words.reads(3, b"keep") {
@@ -160,23 +173,23 @@ fn read_lone_verb(words: &Words<'_>) -> Option<Lone>
     }
 }
 
-fn read_object_verb(words: &Words<'_>) -> Option<On>
-    ensures { result ≡ or_on (user_verb words.now) (or_on (pager_verb words.now) (other_verb words.now)) }
+fn read_object_verb(version: u32, words: &Words<'_>) -> Option<On>
+    ensures { result ≡ or_on (user_verb words.now) (or_on (pager_verb version words.now) (other_verb words.now)) }
 {
     if let Some(verb) = read_user_verb(words) {
         return Some(verb);
     }
-    if let Some(verb) = read_pager_verb(words) {
+    if let Some(verb) = read_pager_verb(version, words) {
         return Some(verb);
     }
     read_other_verb(words)
 }
 
-/// The verb of an actor's line, by its second word, its number of words and its fixed words.
-pub fn read_verb(words: &Words<'_>) -> Option<Verb>
-    ensures { result ≡ verb_of words.now }
+/// The verb of an actor's line in a script of this version, by its second word, its number of words and its fixed words.
+pub fn read_verb(version: u32, words: &Words<'_>) -> Option<Verb>
+    ensures { result ≡ verb_of version words.now }
 {
-    if let Some(verb) = read_object_verb(words) {
+    if let Some(verb) = read_object_verb(version, words) {
         return Some(Verb::OnObject(verb));
     }
     match read_lone_verb(words) {
@@ -213,7 +226,7 @@ impl Over {
             Over::Unpin => Call::Unpin { range },
             Over::Zero => Call::Zero { range },
             Over::Dirty => Call::Dirty { range, brought },
-            Over::End => Call::End { range },
+            Over::End => Call::End { range, of: None },
             Over::Fail(code) => Call::Fail { range, code },
             Over::Begin(zero) => Call::Begin { range, zero },
         }
@@ -236,7 +249,8 @@ impl On {
             }
             On::Turn => kind.is_worker(),
             On::Evict | On::Borrow => kind.is_evictor(),
-            On::Supply | On::Query | On::Packet | On::Detach | On::Stats(_) => kind.is_pager(),
+            On::Supply | On::EndOf | On::Query | On::Packet | On::Detach | On::Stats(_) =>
+                kind.is_pager(),
         }
     }
 }

@@ -24,43 +24,48 @@ use Rattle.up_fields.specs.Limits.{all_tickets, all_counts, all_sizes, most_byte
 use Rattle.up_text.specs.Limits.{all_actors}
 use Rattle.up_calls.specs.Text.{call_words}
 use Rattle.up_replies.specs.Text.{reply_words}
-use Rattle.up_text.specs.Text.{limit_text, entry_words, birth_words}
+use Rattle.up_text.specs.Text.{limit_text, mode_words, entry_words, birth_words}
 use Rattle.up_fields.specs.Fields.{flag_in}
-use Rattle.up_calls.specs.Kinds.{call_size, call_kinds}
-use Rattle.up_replies.specs.Kinds.{reply_size, reply_kinds}
+use Rattle.up_calls.specs.Kinds.{call_size}
+use Rattle.up_replies.specs.Kinds.{reply_size}
 use Rattle.up_calls.specs.Calls.{call_fits, call_kind, call_in, call_of}
 use Rattle.up_replies.specs.Replies.{reply_kind, list_fits, reply_in, reply_of}
-use Rattle.up_text.specs.Reading.{forms_in, entry_in, spelled_bytes, entry_of, limit_in, birth_in}
+use Rattle.up_text.specs.Reading.{forms_in, entry_in, spelled_bytes, entry_of, limit_in, mode_in, birth_size, birth_in}
 use Rattle.up_fields.specs.Allowed.{lies}
-use Rattle.up_calls.specs.Allowed.{call_allowed}
-use Rattle.up_replies.specs.Allowed.{reply_allowed}
-use Rattle.up_text.specs.Allowed.{entry_allowed, limit_allowed, birth_allowed, entry_bytes}
+use Rattle.up_calls.specs.Allowed.{call_allowed, is_formed}
+use Rattle.up_replies.specs.Allowed.{reply_allowed, is_known}
+use Rattle.up_text.specs.Allowed.{deed_known, entry_allowed, limit_allowed, mode_allowed, birth_allowed, entry_bytes}
 use Rattle.up_text.specs.declared.entries.Forms.{Forms}
 use Rattle.up_text.specs.declared.entries.Spelled.{Spelled}
 use Rattle.up_replies.specs.declared.kinds.ReplyKind.{ReplyKind}
 use Rattle.up_replies.specs.declared.kinds.ReplyKind.TheVariants as reply_forms
-use Rattle.up_fields.proofs.Values.{bind_ok, found_ok, either, same_word, other_first, first_digit, number_again, number_takes, number_word, lies_word, flag_takes, flag_word}
+use Rattle.up_fields.proofs.Values.{bind_ok, found_ok, either, same_word, other_first, first_digit, number_again, number_takes, number_word, lies_word, flag_again, flag_takes, flag_word}
 use Rattle.up_calls.proofs.CallForms as of_calls
 use Rattle.up_replies.proofs.ReplyForms as of_replies
 
 -- what an allowed entry's fields are
-pub record IsEntry (e : Entry) : Type 0 where
+pub record IsEntry (numbers numbered : Bool) (e : Entry) : Type 0 where
   pub who : lies 0 all_counts e.who ≡ true
   pub epoch : lies 0 all_tickets e.epoch ≡ true
   pub call : call_allowed e.call ≡ true
   pub reply : reply_allowed e.reply ≡ true
+  pub formed : is_formed numbered e.call ≡ true
+  pub known : is_known numbers e.reply ≡ true
 
-pub entry_parts : (e : Entry) → entry_allowed e ≡ true → IsEntry e
-entry_parts e a =
-    let p = and_parts (lies 0 all_counts e.who) (lies 0 all_tickets e.epoch && (call_allowed e.call && reply_allowed e.reply)) a in
-    let q = and_parts (lies 0 all_tickets e.epoch) (call_allowed e.call && reply_allowed e.reply) p.1 in
-    let r = and_parts (call_allowed e.call) (reply_allowed e.reply) q.1 in
-    record { who = p.0; epoch = q.0; call = r.0; reply = r.1 }
+pub entry_parts : (numbers numbered : Bool) (e : Entry) → entry_allowed numbers numbered e ≡ true → IsEntry numbers numbered e
+entry_parts numbers numbered e a =
+    let deed = reply_allowed e.reply && deed_known numbers numbered e in
+    let p = and_parts (lies 0 all_counts e.who) (lies 0 all_tickets e.epoch && (call_allowed e.call && deed)) a in
+    let q = and_parts (lies 0 all_tickets e.epoch) (call_allowed e.call && deed) p.1 in
+    let r = and_parts (call_allowed e.call) deed q.1 in
+    let s = and_parts (reply_allowed e.reply) (deed_known numbers numbered e) r.1 in
+    let t = and_parts (is_formed numbered e.call) (is_known numbers e.reply) s.1 in
+    record { who = p.0; epoch = q.0; call = r.0; reply = s.0; formed = t.0; known = t.1 }
 
 -- an allowed entry's words are words
-pub entry_good : (position : ℕ) (e : Entry) → position < 2 ^ 64 → entry_allowed e ≡ true → list_all is_word (entry_words position e) ≡ true
-entry_good position e fits a =
-    let parts = entry_parts e a in
+pub entry_good : (numbers numbered : Bool) (position : ℕ) (e : Entry) → position < 2 ^ 64 → entry_allowed numbers numbered e ≡ true → list_all is_word (entry_words position e) ≡ true
+entry_good numbers numbered position e fits a =
+    let parts = entry_parts numbers numbered e a in
     let deed : list_all is_word (call_words e.call ++ codes "->" ∷ reply_words e.reply) ≡ true =
     list_all-append is_word (call_words e.call) (codes "->" ∷ reply_words e.reply)
     ∙ both (list_all is_word (call_words e.call)) (list_all is_word (reply_words e.reply)) (of_calls.call_good e.call parts.call) (of_replies.reply_good e.reply parts.reply) in
@@ -69,14 +74,14 @@ entry_good position e fits a =
     (both (is_word (decimal e.epoch)) (list_all is_word (call_words e.call ++ codes "->" ∷ reply_words e.reply)) (lies_word 0 all_tickets e.epoch (omega arith) parts.epoch) deed))
 
 -- the forms of an entry are found in its words
-forms_again : (position : ℕ) (e : Entry) → entry_allowed e ≡ true → forms_in (entry_words position e) ≡ Ok (record { call = of_calls.kind_of e.call; reply = of_replies.kind_of e.reply })
-forms_again position e a =
-    let parts = entry_parts e a in
+forms_again : (numbers numbered : Bool) (position : ℕ) (e : Entry) → entry_allowed numbers numbered e ≡ true → forms_in numbers numbered (entry_words position e) ≡ Ok (record { call = of_calls.kind_of e.call; reply = of_replies.kind_of e.reply })
+forms_again numbers numbered position e a =
+    let parts = entry_parts numbers numbered e a in
     rw (
-      of_calls.call_found e.call (codes "->" ∷ reply_words e.reply),
+      of_calls.call_found numbered e.call (codes "->" ∷ reply_words e.reply) parts.formed,
       of_calls.call_ended e.call (codes "->" ∷ reply_words e.reply),
       of_calls.call_behind e.call (reply_words e.reply) (decimal position) (decimal e.who) (decimal e.epoch) (codes "->"),
-      of_replies.reply_found e.reply,
+      of_replies.reply_found numbers e.reply parts.known,
       of_replies.list_shown e.reply parts.reply,
     ) refl
 
@@ -85,23 +90,23 @@ abbrev with_deed : Entry → Call → Reply → Entry
 with_deed e call reply = record { who = e.who; epoch = e.epoch; call = call; reply = reply }
 
 -- how an entry is read from its words
-pub record EntryAgain (position : ℕ) (e : Entry) : Type 0 where
+pub record EntryAgain (numbers numbered : Bool) (position : ℕ) (e : Entry) : Type 0 where
   pub spelled : Spelled
-  pub read : entry_in position (entry_words position e) ≡ Ok spelled
+  pub read : entry_in numbers numbered position (entry_words position e) ≡ Ok spelled
   pub same : entry_of spelled ≡ e
   pub total : spelled_bytes spelled ≡ entry_bytes e
 
 -- an allowed entry is read from its words
-pub entry_again : (position : ℕ) (e : Entry) → position ≤ all_tickets → entry_allowed e ≡ true → entry_bytes e ≤ most_bytes → EntryAgain position e
-entry_again position e fits a few =
-    let parts = entry_parts e a in
+pub entry_again : (numbers numbered : Bool) (position : ℕ) (e : Entry) → position ≤ all_tickets → entry_allowed numbers numbered e ≡ true → entry_bytes e ≤ most_bytes → EntryAgain numbers numbered position e
+entry_again numbers numbered position e fits a few =
+    let parts = entry_parts numbers numbered e a in
     let call = of_calls.call_again e.call (codes "->" ∷ reply_words e.reply) parts.call (omega (arith, few)) in
     let reply = of_replies.reply_again e.reply parts.reply (omega (arith, few)) in
     let place : lies 0 all_tickets position ≡ true = both (leb 0 position) (leb position all_tickets) (le-leb 0 position (omega arith)) (le-leb position all_tickets fits) in
     record {
       spelled = record { who = e.who; epoch = e.epoch; call = call.spelled; reply = reply.spelled };
       read = rw (
-        forms_again position e a,
+        forms_again numbers numbered position e a,
         number_again 0 all_tickets position (omega arith) place,
         number_again 0 all_counts e.who (omega arith) parts.who,
         number_again 0 all_tickets e.epoch (omega arith) parts.epoch,
@@ -136,6 +141,8 @@ some_size reply_forms.PacketComplete = omega arith
 some_size reply_forms.Left = omega arith
 some_size reply_forms.RefusedPlain = omega arith
 some_size reply_forms.RefusedPage = omega arith
+some_size reply_forms.Began = omega arith
+some_size reply_forms.RefusedNumber = omega arith
 
 -- the forms that were found, and where the reply begins
 record HasForms (forms : Forms) (deed : List (List ℕ)) : Type 0 where
@@ -148,26 +155,26 @@ record HasForms (forms : Forms) (deed : List (List ℕ)) : Type 0 where
 behind : (size : ℕ) (a b c : List ℕ) (deed : List (List ℕ)) → drop (size + 4) (a ∷ b ∷ c ∷ deed) ≡ drop (suc size) deed
 behind size a b c deed = let same : size + 4 ≡ suc (suc (suc (suc size))) = omega arith in rw same refl
 
-forms_take : (a b c : List ℕ) (deed : List (List ℕ)) (forms : Forms) → forms_in (a ∷ b ∷ c ∷ deed) ≡ Ok forms → HasForms forms deed
-forms_take a b c deed forms e =
-    let call = found_ok why.Word (call_kind deed) _ forms e in
+forms_take : (numbers numbered : Bool) (a b c : List ℕ) (deed : List (List ℕ)) (forms : Forms) → forms_in numbers numbered (a ∷ b ∷ c ∷ deed) ≡ Ok forms → HasForms forms deed
+forms_take numbers numbered a b c deed forms e =
+    let call = found_ok why.Word (call_kind numbered deed) _ forms e in
     let arrow = then_ok why.Word (word_is deed (call_size call.0) (codes "->")) _ forms call.2 in
-    let reply = found_ok why.Word (reply_kind (drop (call_size call.0 + 4) (a ∷ b ∷ c ∷ deed))) _ forms arrow.1 in
+    let reply = found_ok why.Word (reply_kind numbers (drop (call_size call.0 + 4) (a ∷ b ∷ c ∷ deed))) _ forms arrow.1 in
     let shaped = then_ok why.Word (list_fits reply.0 (drop (call_size call.0 + 4) (a ∷ b ∷ c ∷ deed))) _ forms reply.2 in
     let made : Forms = record { call = call.0; reply = reply.0 } in
-    let fits = of_replies.fits_parts reply.0 (drop (call_size call.0 + 4) (a ∷ b ∷ c ∷ deed)) (of_replies.found_fits reply_kinds (drop (call_size call.0 + 4) (a ∷ b ∷ c ∷ deed)) reply.0 reply.1) in
+    let fits = of_replies.fits_parts reply.0 (drop (call_size call.0 + 4) (a ∷ b ∷ c ∷ deed)) (of_replies.found_fits numbers (drop (call_size call.0 + 4) (a ∷ b ∷ c ∷ deed)) reply.0 reply.1) in
     let there : of_replies.Fits reply.0 (drop (suc (call_size call.0)) deed) = subst (λ ws. of_replies.Fits reply.0 ws) (behind (call_size call.0) a b c deed) fits in
     let found : HasForms made deed = record {
-      call = of_calls.found_fits call_kinds deed call.0 call.1;
+      call = of_calls.found_fits numbered deed call.0 call.1;
       arrow = same_word (word_at deed (call_size call.0)) (codes "->") arrow.0;
       reply = there;
       long = omega (arith, there.size, some_size reply.0, length-drop (suc (call_size call.0)) deed);
     } in
     subst (λ f. HasForms f deed) (ok_is made forms shaped.1) found
 
-words_take : (next : ℕ) (a b c : List ℕ) (deed : List (List ℕ)) (spelled : Spelled) → entry_in next (a ∷ b ∷ c ∷ deed) ≡ Ok spelled → spelled_bytes spelled < too_many → (a ∷ b ∷ c ∷ deed) ≡ entry_words next (entry_of spelled)
-words_take next a b c deed spelled e less =
-    let forms = bind_ok (forms_in (a ∷ b ∷ c ∷ deed)) _ spelled e in
+words_take : (numbers numbered : Bool) (next : ℕ) (a b c : List ℕ) (deed : List (List ℕ)) (spelled : Spelled) → entry_in numbers numbered next (a ∷ b ∷ c ∷ deed) ≡ Ok spelled → spelled_bytes spelled < too_many → (a ∷ b ∷ c ∷ deed) ≡ entry_words next (entry_of spelled)
+words_take numbers numbered next a b c deed spelled e less =
+    let forms = bind_ok (forms_in numbers numbered (a ∷ b ∷ c ∷ deed)) _ spelled e in
     let position = bind_ok (number_between 0 all_tickets a) _ spelled forms.2 in
     let who = bind_ok (number_between 0 all_counts b) _ spelled position.2 in
     let epoch = bind_ok (number_between 0 all_tickets c) _ spelled who.2 in
@@ -177,7 +184,7 @@ words_take next a b c deed spelled e less =
     let made : Spelled = record { who = who.0; epoch = epoch.0; call = call.0; reply = reply.0 } in
     let same : made ≡ spelled = ok_is made spelled order.1 in
     let few : spelled_bytes made < too_many = subst (λ (s : Spelled). spelled_bytes s < too_many) (sym same) less in
-    let has = forms_take a b c deed forms.0 forms.1 in
+    let has = forms_take numbers numbered a b c deed forms.0 forms.1 in
     let size = call_size forms.0.call in
     let reply_is : reply_in forms.0.reply (drop (suc size) deed) ≡ Ok reply.0 = ap (reply_in forms.0.reply) (sym (behind size a b c deed)) ∙ reply.1 in
     let call_part = of_calls.call_takes forms.0.call deed call.0 (omega (arith, has.long)) has.call call.1 (omega (arith, few)) in
@@ -192,35 +199,53 @@ words_take next a b c deed spelled e less =
     of_rows : {x y z u v w : List ℕ} → x ≡ u → y ≡ v → z ≡ w → (x ∷ y ∷ z ∷ []) ≡ (u ∷ v ∷ w ∷ [])
     of_rows e f g = ap₂ (λ (x : List ℕ) (ws : List (List ℕ)). x ∷ ws) e (ap₂ (λ (x : List ℕ) (ws : List (List ℕ)). x ∷ ws) f (ap (λ (x : List ℕ). x ∷ []) g))
 
-no_kind : (words : List (List ℕ)) (spelled : Spelled) (next : ℕ) → length words < 3 → entry_in next words ≡ Ok spelled → ⊥
-no_kind words spelled next short e =
-    let forms = bind_ok (forms_in words) _ spelled e in
-    let call = found_ok why.Word (call_kind (drop 3 words)) _ forms.0 forms.1 in
+no_kind : (numbers numbered : Bool) (words : List (List ℕ)) (spelled : Spelled) (next : ℕ) → length words < 3 → entry_in numbers numbered next words ≡ Ok spelled → ⊥
+no_kind numbers numbered words spelled next short e =
+    let forms = bind_ok (forms_in numbers numbered words) _ spelled e in
+    let call = found_ok why.Word (call_kind numbered (drop 3 words)) _ forms.0 forms.1 in
     let arrow = then_ok why.Word (word_is (drop 3 words) (call_size call.0) (codes "->")) _ forms.0 call.2 in
-    let reply = found_ok why.Word (reply_kind (drop (call_size call.0 + 4) words)) _ forms.0 arrow.1 in
-    let fits = of_replies.fits_parts reply.0 (drop (call_size call.0 + 4) words) (of_replies.found_fits reply_kinds (drop (call_size call.0 + 4) words) reply.0 reply.1) in
+    let reply = found_ok why.Word (reply_kind numbers (drop (call_size call.0 + 4) words)) _ forms.0 arrow.1 in
+    let fits = of_replies.fits_parts reply.0 (drop (call_size call.0 + 4) words) (of_replies.found_fits numbers (drop (call_size call.0 + 4) words) reply.0 reply.1) in
     omega (arith, short, fits.size, some_size reply.0, length-drop (call_size call.0 + 4) words)
 
 -- no other words are read as an entry
-pub entry_takes : (next : ℕ) (words : List (List ℕ)) (spelled : Spelled) → entry_in next words ≡ Ok spelled → spelled_bytes spelled < too_many → words ≡ entry_words next (entry_of spelled)
-entry_takes next [] spelled e less = absurd (no_kind [] spelled next (omega arith) e)
-entry_takes next (a ∷ []) spelled e less = absurd (no_kind (a ∷ []) spelled next (omega arith) e)
-entry_takes next (a ∷ b ∷ []) spelled e less = absurd (no_kind (a ∷ b ∷ []) spelled next (omega arith) e)
-entry_takes next (a ∷ b ∷ c ∷ deed) spelled e less = words_take next a b c deed spelled e less
+pub entry_takes : (numbers numbered : Bool) (next : ℕ) (words : List (List ℕ)) (spelled : Spelled) → entry_in numbers numbered next words ≡ Ok spelled → spelled_bytes spelled < too_many → words ≡ entry_words next (entry_of spelled)
+entry_takes numbers numbered next [] spelled e less = absurd (no_kind numbers numbered [] spelled next (omega arith) e)
+entry_takes numbers numbered next (a ∷ []) spelled e less = absurd (no_kind numbers numbered (a ∷ []) spelled next (omega arith) e)
+entry_takes numbers numbered next (a ∷ b ∷ []) spelled e less = absurd (no_kind numbers numbered (a ∷ b ∷ []) spelled next (omega arith) e)
+entry_takes numbers numbered next (a ∷ b ∷ c ∷ deed) spelled e less = words_take numbers numbered next a b c deed spelled e less
 
 -- what an allowed birth's fields are
-pub record IsBirth (birth : Birth) : Type 0 where
+pub record IsBirth (numbers : Bool) (birth : Birth) : Type 0 where
   pub pages : lies 0 all_sizes birth.pages ≡ true
   pub limit : limit_allowed birth.pages birth.limit ≡ true
   pub users : lies 1 all_actors birth.users ≡ true
   pub pagers : lies 1 all_actors birth.pagers ≡ true
+  pub mode : mode_allowed numbers birth.numbered ≡ true
 
-pub birth_parts : (birth : Birth) → birth_allowed birth ≡ true → IsBirth birth
-birth_parts birth a =
-    let p = and_parts (lies 0 all_sizes birth.pages) (limit_allowed birth.pages birth.limit && (lies 1 all_actors birth.users && lies 1 all_actors birth.pagers)) a in
-    let q = and_parts (limit_allowed birth.pages birth.limit) (lies 1 all_actors birth.users && lies 1 all_actors birth.pagers) p.1 in
-    let r = and_parts (lies 1 all_actors birth.users) (lies 1 all_actors birth.pagers) q.1 in
-    record { pages = p.0; limit = q.0; users = r.0; pagers = r.1 }
+pub birth_parts : (numbers : Bool) (birth : Birth) → birth_allowed numbers birth ≡ true → IsBirth numbers birth
+birth_parts numbers birth a =
+    let bonds = lies 1 all_actors birth.users && (lies 1 all_actors birth.pagers && mode_allowed numbers birth.numbered) in
+    let p = and_parts (lies 0 all_sizes birth.pages) (limit_allowed birth.pages birth.limit && bonds) a in
+    let q = and_parts (limit_allowed birth.pages birth.limit) bonds p.1 in
+    let r = and_parts (lies 1 all_actors birth.users) (lies 1 all_actors birth.pagers && mode_allowed numbers birth.numbered) q.1 in
+    let s = and_parts (lies 1 all_actors birth.pagers) (mode_allowed numbers birth.numbered) r.1 in
+    record { pages = p.0; limit = q.0; users = r.0; pagers = s.0; mode = s.1 }
+
+-- whether a journal is numbered is read from its words
+pub mode_again : (numbers numbered : Bool) → mode_allowed numbers numbered ≡ true → mode_in numbers (word_at (mode_words numbers numbered) 0) ≡ Some numbered
+mode_again true numbered a = flag_again (codes "numbered") (codes "ranged") numbered refl refl refl
+mode_again false true a = absurd cc
+mode_again false false a = refl
+
+mode_good : (numbers numbered : Bool) → list_all is_word (mode_words numbers numbered) ≡ true
+mode_good true numbered = rw (flag_word (codes "numbered") (codes "ranged") numbered refl refl) refl
+mode_good false numbered = refl
+
+-- so many words a birth has
+pub birth_long : (numbers : Bool) (name : List ℕ) (birth : Birth) → length (birth_words numbers name birth) ≡ birth_size numbers
+birth_long true name birth = refl
+birth_long false name birth = refl
 
 limit_again : (pages : ℕ) (limit : Option ℕ) → limit_allowed pages limit ≡ true → limit_in pages (limit_text limit) ≡ Ok limit
 limit_again pages None a = refl
@@ -245,9 +270,9 @@ limit_takes pages limit word e = ⊎_elim none some (either (bytes_eq word (code
         number_takes pages all_sizes most.0 word (omega arith) most.1 ∙ ap limit_text (ok_is (Some most.0) limit most.2)
 
 -- an allowed birth is read from its words
-pub birth_again : (name : List ℕ) (birth : Birth) → birth_allowed birth ≡ true → birth_in (birth_words name birth) birth.trap birth.image ≡ Ok birth
-birth_again name birth a =
-    let parts = birth_parts birth a in
+pub birth_again : (numbers : Bool) (name : List ℕ) (birth : Birth) → birth_allowed numbers birth ≡ true → birth_in (birth_words numbers name birth) birth.trap birth.image birth.numbered ≡ Ok birth
+birth_again numbers name birth a =
+    let parts = birth_parts numbers birth a in
     rw (
       number_again 0 all_sizes birth.pages (omega arith) parts.pages,
       limit_again birth.pages birth.limit parts.limit,
@@ -282,9 +307,9 @@ name_word name e =
     both (not (eqb (length name) 0)) (list_all is_word_byte name) r.0 (name_bytes name p.1)
 
 -- an allowed birth's words are words
-pub birth_good : (name : List ℕ) (birth : Birth) → is_name name ≡ true → birth_allowed birth ≡ true → list_all is_word (birth_words name birth) ≡ true
-birth_good name birth named a =
-    let parts = birth_parts birth a in
+pub birth_good : (numbers : Bool) (name : List ℕ) (birth : Birth) → is_name name ≡ true → birth_allowed numbers birth ≡ true → list_all is_word (birth_words numbers name birth) ≡ true
+birth_good numbers name birth named a =
+    let parts = birth_parts numbers birth a in
     rw (
       name_word name named,
       lies_word 0 all_sizes birth.pages (omega arith) parts.pages,
@@ -293,34 +318,58 @@ birth_good name birth named a =
       lies_word 1 all_actors birth.users (omega arith) parts.users,
       lies_word 1 all_actors birth.pagers (omega arith) parts.pagers,
       flag_word (codes "image") (codes "-") birth.image refl refl,
+      mode_good numbers birth.numbered,
     ) refl
 
+next : {a b : List ℕ} {cs ds : List (List ℕ)} → a ≡ b → cs ≡ ds → (a ∷ cs) ≡ (b ∷ ds)
+next e f = ap₂ (λ (w : List ℕ) (ws : List (List ℕ)). w ∷ ws) e f
+
+-- eight words, and what follows them
+first_eight : (ws : List (List ℕ)) → 8 ≤ length ws → ws ≡ word_at ws 0 ∷ word_at ws 1 ∷ word_at ws 2 ∷ word_at ws 3 ∷ word_at ws 4 ∷ word_at ws 5 ∷ word_at ws 6 ∷ word_at ws 7 ∷ drop 8 ws
+first_eight [] e = absurd (omega (arith, e))
+first_eight (a ∷ []) e = absurd (omega (arith, e))
+first_eight (a ∷ b ∷ []) e = absurd (omega (arith, e))
+first_eight (a ∷ b ∷ c ∷ []) e = absurd (omega (arith, e))
+first_eight (a ∷ b ∷ c ∷ d ∷ []) e = absurd (omega (arith, e))
+first_eight (a ∷ b ∷ c ∷ d ∷ f ∷ []) e = absurd (omega (arith, e))
+first_eight (a ∷ b ∷ c ∷ d ∷ f ∷ g ∷ []) e = absurd (omega (arith, e))
+first_eight (a ∷ b ∷ c ∷ d ∷ f ∷ g ∷ h ∷ []) e = absurd (omega (arith, e))
+first_eight (a ∷ b ∷ c ∷ d ∷ f ∷ g ∷ h ∷ i ∷ more) e = refl
+
+no_more : (ws : List (List ℕ)) → length ws ≡ 0 → ws ≡ []
+no_more [] e = refl
+no_more (a ∷ more) e = absurd (omega (arith, e))
+
+one_more : (ws : List (List ℕ)) → length ws ≡ 1 → ws ≡ word_at ws 0 ∷ []
+one_more [] e = absurd (omega (arith, e))
+one_more (a ∷ []) e = refl
+one_more (a ∷ b ∷ more) e = absurd (omega (arith, e))
+
+-- the words behind the first eight say whether the journal is numbered
+mode_takes : (numbers numbered : Bool) (words : List (List ℕ)) → length words ≡ birth_size numbers → mode_in numbers (word_at words 8) ≡ Some numbered → drop 8 words ≡ mode_words numbers numbered
+mode_takes false numbered words size e = no_more (drop 8 words) (omega (arith, size, length-drop 8 words))
+mode_takes true numbered words size e =
+    let last : word_at (drop 8 words) 0 ≡ word_at words 8 = word_behind words (omega (arith, size)) in
+    one_more (drop 8 words) (omega (arith, size, length-drop 8 words)) ∙ next (last ∙ flag_takes (codes "numbered") (codes "ranged") (word_at words 8) numbered e) refl
+  where
+    word_behind : (ws : List (List ℕ)) → 9 ≤ length ws → word_at (drop 8 ws) 0 ≡ word_at ws 8
+    word_behind ws long = rw (first_eight ws (omega (arith, long))) refl
+
+birth_some : (numbers : Bool) (n : ℕ) → n ≡ birth_size numbers → 8 ≤ n
+birth_some true n e = omega (arith, e)
+birth_some false n e = omega (arith, e)
+
 -- no other words are read as a birth
-pub birth_takes : (words : List (List ℕ)) (birth : Birth) (trap image : Bool) → length words ≡ 8 → word_at words 0 ≡ codes "journal" → flag_in (codes "trap") (codes "free") (word_at words 4) ≡ Some trap → flag_in (codes "image") (codes "-") (word_at words 7) ≡ Some image
-    → birth_in words trap image ≡ Ok birth → words ≡ birth_words (word_at words 1) birth
-birth_takes words birth trap image size verb trapped imaged e =
+pub birth_takes : (numbers : Bool) (words : List (List ℕ)) (birth : Birth) (trap image numbered : Bool) → length words ≡ birth_size numbers → word_at words 0 ≡ codes "journal" → flag_in (codes "trap") (codes "free") (word_at words 4) ≡ Some trap → flag_in (codes "image") (codes "-") (word_at words 7) ≡ Some image
+    → mode_in numbers (word_at words 8) ≡ Some numbered → birth_in words trap image numbered ≡ Ok birth → words ≡ birth_words numbers (word_at words 1) birth
+birth_takes numbers words birth trap image numbered size verb trapped imaged told e =
     let pages = bind_ok (number_between 0 all_sizes (word_at words 2)) _ birth e in
     let limit = bind_ok (limit_in pages.0 (word_at words 3)) _ birth pages.2 in
     let users = bind_ok (number_between 1 all_actors (word_at words 5)) _ birth limit.2 in
     let pagers = bind_ok (number_between 1 all_actors (word_at words 6)) _ birth users.2 in
-    let made : Birth = record { pages = pages.0; limit = limit.0; trap = trap; users = users.0; pagers = pagers.0; image = image } in
-    eight words size
+    let made : Birth = record { pages = pages.0; limit = limit.0; trap = trap; users = users.0; pagers = pagers.0; image = image; numbered = numbered } in
+    first_eight words (birth_some numbers (length words) size)
     ∙ next verb (next refl (next (number_takes 0 all_sizes pages.0 (word_at words 2) (omega arith) pages.1) (next (limit_takes pages.0 limit.0 (word_at words 3) limit.1)
     (next (flag_takes (codes "trap") (codes "free") (word_at words 4) trap trapped) (next (number_takes 1 all_actors users.0 (word_at words 5) (omega arith) users.1)
-    (next (number_takes 1 all_actors pagers.0 (word_at words 6) (omega arith) pagers.1) (next (flag_takes (codes "image") (codes "-") (word_at words 7) image imaged) refl)))))))
-    ∙ ap (birth_words (word_at words 1)) (ok_is made birth pagers.2)
-  where
-    next : {a b : List ℕ} {cs ds : List (List ℕ)} → a ≡ b → cs ≡ ds → (a ∷ cs) ≡ (b ∷ ds)
-    next e f = ap₂ (λ (w : List ℕ) (ws : List (List ℕ)). w ∷ ws) e f
-
-    eight : (ws : List (List ℕ)) → length ws ≡ 8 → ws ≡ word_at ws 0 ∷ word_at ws 1 ∷ word_at ws 2 ∷ word_at ws 3 ∷ word_at ws 4 ∷ word_at ws 5 ∷ word_at ws 6 ∷ word_at ws 7 ∷ []
-    eight [] e = absurd (omega (arith, e))
-    eight (a ∷ []) e = absurd (omega (arith, e))
-    eight (a ∷ b ∷ []) e = absurd (omega (arith, e))
-    eight (a ∷ b ∷ c ∷ []) e = absurd (omega (arith, e))
-    eight (a ∷ b ∷ c ∷ d ∷ []) e = absurd (omega (arith, e))
-    eight (a ∷ b ∷ c ∷ d ∷ f ∷ []) e = absurd (omega (arith, e))
-    eight (a ∷ b ∷ c ∷ d ∷ f ∷ g ∷ []) e = absurd (omega (arith, e))
-    eight (a ∷ b ∷ c ∷ d ∷ f ∷ g ∷ h ∷ []) e = absurd (omega (arith, e))
-    eight (a ∷ b ∷ c ∷ d ∷ f ∷ g ∷ h ∷ i ∷ []) e = refl
-    eight (a ∷ b ∷ c ∷ d ∷ f ∷ g ∷ h ∷ i ∷ j ∷ more) e = absurd (omega (arith, e))
+    (next (number_takes 1 all_actors pagers.0 (word_at words 6) (omega arith) pagers.1) (next (flag_takes (codes "image") (codes "-") (word_at words 7) image imaged) (mode_takes numbers numbered words size told))))))))
+    ∙ ap (birth_words numbers (word_at words 1)) (ok_is made birth pagers.2)

@@ -1,6 +1,6 @@
 -- Calls and replies have one text each, whatever the length of their byte lists: with a short list in place of its own each is read back, and the
 -- bytes have one text.
-use Rattle.std.proofs.Common.{◌≡◌, ℕ, ◌≤◌, true, ◌&&◌, List, [], ◌∷◌, ◌++◌, length, take, drop, refl, sym, ap, ap₂, ◌∙◌, arith}
+use Rattle.std.proofs.Common.{◌≡◌, ℕ, ◌≤◌, Bool, true, ◌&&◌, List, [], ◌∷◌, ◌++◌, length, take, drop, Some, None, refl, sym, ap, ap₂, ◌∙◌, arith}
 use Rattle.std.specs.List.{list_all}
 use Rattle.std.proofs.lemmas.Bool.{and_parts}
 use Rattle.up_model.specs.declared.entry.Call.{Call}
@@ -18,14 +18,14 @@ use Rattle.up_words.proofs.Decimals.{both, ok_is, some_is}
 use Rattle.up_fields.specs.Limits.{all_tickets, all_lasts, all_offsets, most_bytes}
 use Rattle.up_fields.specs.Allowed.{lies, range_lies, are_bytes}
 use Rattle.up_fields.proofs.Rows.{bytes_fit}
-use Rattle.up_calls.specs.Allowed.{call_allowed, call_bytes}
+use Rattle.up_calls.specs.Allowed.{call_allowed, call_bytes, is_formed}
 use Rattle.up_calls.specs.Calls as of_calls
 use Rattle.up_calls.specs.Frames.{frames_lie}
 use Rattle.up_calls.specs.Text.{call_words}
 use Rattle.up_calls.specs.declared.kinds.CallKind.{CallKind}
 use Rattle.up_calls.specs.declared.kinds.CallKind.TheVariants as call_kinds
 use Rattle.up_calls.proofs.CallForms as call_forms
-use Rattle.up_replies.specs.Allowed.{reply_allowed, reply_bytes}
+use Rattle.up_replies.specs.Allowed.{reply_allowed, reply_bytes, is_known}
 use Rattle.up_replies.specs.Replies as of_replies
 use Rattle.up_replies.specs.Text.{reply_words}
 use Rattle.up_replies.specs.declared.kinds.ReplyKind.{ReplyKind}
@@ -72,7 +72,7 @@ call_whole (calls.Supply range bytes brought) = refl
 call_whole (calls.Fail range code) = refl
 call_whole (calls.Dirty range brought) = refl
 call_whole (calls.Begin range zero) = refl
-call_whole (calls.End range) = refl
+call_whole (calls.End range of) = refl
 call_whole (calls.Query range room) = refl
 call_whole (calls.Stats reset) = refl
 call_whole (calls.Hint range kind) = refl
@@ -96,7 +96,8 @@ call_same_kind (calls.Supply range bytes brought) = refl
 call_same_kind (calls.Fail range code) = refl
 call_same_kind (calls.Dirty range brought) = refl
 call_same_kind (calls.Begin range zero) = refl
-call_same_kind (calls.End range) = refl
+call_same_kind (calls.End range None) = refl
+call_same_kind (calls.End range (Some n)) = refl
 call_same_kind (calls.Query range room) = refl
 call_same_kind (calls.Stats reset) = refl
 call_same_kind (calls.Hint range Always) = refl
@@ -126,7 +127,8 @@ call_bytes_are (calls.Supply range bytes brought) more = refl
 call_bytes_are (calls.Fail range code) more = refl
 call_bytes_are (calls.Dirty range brought) more = refl
 call_bytes_are (calls.Begin range zero) more = refl
-call_bytes_are (calls.End range) more = refl
+call_bytes_are (calls.End range None) more = refl
+call_bytes_are (calls.End range (Some n)) more = refl
 call_bytes_are (calls.Query range room) more = refl
 call_bytes_are (calls.Stats reset) more = refl
 call_bytes_are (calls.Hint range Always) more = refl
@@ -156,7 +158,8 @@ call_shortened (calls.Supply range bytes brought) more = refl
 call_shortened (calls.Fail range code) more = refl
 call_shortened (calls.Dirty range brought) more = refl
 call_shortened (calls.Begin range zero) more = refl
-call_shortened (calls.End range) more = refl
+call_shortened (calls.End range None) more = refl
+call_shortened (calls.End range (Some n)) more = refl
 call_shortened (calls.Query range room) more = refl
 call_shortened (calls.Stats reset) more = refl
 call_shortened (calls.Hint range Always) more = refl
@@ -191,7 +194,7 @@ call_short_allowed (calls.Supply range bytes brought) e =
 call_short_allowed (calls.Fail range code) e = e
 call_short_allowed (calls.Dirty range brought) e = e
 call_short_allowed (calls.Begin range zero) e = e
-call_short_allowed (calls.End range) e = e
+call_short_allowed (calls.End range of) e = e
 call_short_allowed (calls.Query range room) e = e
 call_short_allowed (calls.Stats reset) e = e
 call_short_allowed (calls.Hint range kind) e = e
@@ -215,7 +218,7 @@ call_short_few (calls.Supply range bytes brought) = omega arith
 call_short_few (calls.Fail range code) = omega arith
 call_short_few (calls.Dirty range brought) = omega arith
 call_short_few (calls.Begin range zero) = omega arith
-call_short_few (calls.End range) = omega arith
+call_short_few (calls.End range of) = omega arith
 call_short_few (calls.Query range room) = omega arith
 call_short_few (calls.Stats reset) = omega arith
 call_short_few (calls.Hint range kind) = omega arith
@@ -249,7 +252,7 @@ call_bytes_fine (calls.Supply range bytes brought) e =
 call_bytes_fine (calls.Fail range code) e = (refl, omega arith)
 call_bytes_fine (calls.Dirty range brought) e = (refl, omega arith)
 call_bytes_fine (calls.Begin range zero) e = (refl, omega arith)
-call_bytes_fine (calls.End range) e = (refl, omega arith)
+call_bytes_fine (calls.End range of) e = (refl, omega arith)
 call_bytes_fine (calls.Query range room) e = (refl, omega arith)
 call_bytes_fine (calls.Stats reset) e = (refl, omega arith)
 call_bytes_fine (calls.Hint range kind) e = (refl, omega arith)
@@ -265,11 +268,11 @@ call_bytes_fine calls.Packet e = (refl, omega arith)
 call_bytes_fine (calls.Leave role) e = (refl, omega arith)
 call_bytes_fine (calls.Tell told) e = (refl, omega arith)
 
--- calls whose words begin one line are one, and what stands behind them is the same
-pub call_one : (a b : Call) (more others : List (List ℕ)) → call_allowed a ≡ true → call_allowed b ≡ true → call_words a ++ more ≡ call_words b ++ others → (a ≡ b) × (more ≡ others)
-call_one a b more others allowed also e =
+-- calls of one form whose words begin one line are one, and what stands behind them is the same
+pub call_one : (numbered : Bool) (a b : Call) (more others : List (List ℕ)) → call_allowed a ≡ true → call_allowed b ≡ true → is_formed numbered a ≡ true → is_formed numbered b ≡ true → call_words a ++ more ≡ call_words b ++ others → (a ≡ b) × (more ≡ others)
+call_one numbered a b more others allowed also formed fits e =
     let kind : call_forms.kind_of a ≡ call_forms.kind_of b =
-    some_is (call_forms.kind_of a) (call_forms.kind_of b) (sym (call_forms.call_found a more) ∙ ap of_calls.call_kind e ∙ call_forms.call_found b others) in
+    some_is (call_forms.kind_of a) (call_forms.kind_of b) (sym (call_forms.call_found numbered a more formed) ∙ ap (of_calls.call_kind numbered) e ∙ call_forms.call_found numbered b others fits) in
     let words : call_words (short_call a) ++ more ≡ call_words (short_call b) ++ others = sym (call_shortened a more) ∙ ap₂ short_call_words kind e ∙ call_shortened b others in
     let kinds : call_forms.kind_of (short_call a) ≡ call_forms.kind_of (short_call b) = call_same_kind a ∙ kind ∙ sym (call_same_kind b) in
     let first = call_forms.call_again (short_call a) more (call_short_allowed a allowed) (call_short_few a) in
@@ -303,6 +306,7 @@ reply_whole : (reply : Reply) → of_replies.with_bytes (bytes_in_reply reply) (
 reply_whole (replies.Bytes bytes) = refl
 reply_whole replies.Done = refl
 reply_whole replies.Waiting = refl
+reply_whole (replies.Began number) = refl
 reply_whole replies.Noted = refl
 reply_whole replies.Empty = refl
 reply_whole replies.Finished = refl
@@ -323,6 +327,7 @@ reply_same_kind : (reply : Reply) → reply_forms.kind_of (short_reply reply) �
 reply_same_kind (replies.Bytes bytes) = refl
 reply_same_kind replies.Done = refl
 reply_same_kind replies.Waiting = refl
+reply_same_kind (replies.Began number) = refl
 reply_same_kind replies.Noted = refl
 reply_same_kind replies.Empty = refl
 reply_same_kind replies.Finished = refl
@@ -340,6 +345,7 @@ reply_same_kind (replies.Packet (packets.Dirty range)) = refl
 reply_same_kind (replies.Packet packets.Complete) = refl
 reply_same_kind (replies.Left woken) = refl
 reply_same_kind (replies.Refused refusals.Range) = refl
+reply_same_kind (replies.Refused (refusals.NotBegun number)) = refl
 reply_same_kind (replies.Refused refusals.Detached) = refl
 reply_same_kind (replies.Refused refusals.NotTrap) = refl
 reply_same_kind (replies.Refused refusals.Fixed) = refl
@@ -355,6 +361,7 @@ reply_bytes_are : (reply : Reply) → reply_bytes_word (reply_forms.kind_of repl
 reply_bytes_are (replies.Bytes bytes) = refl
 reply_bytes_are replies.Done = refl
 reply_bytes_are replies.Waiting = refl
+reply_bytes_are (replies.Began number) = refl
 reply_bytes_are replies.Noted = refl
 reply_bytes_are replies.Empty = refl
 reply_bytes_are replies.Finished = refl
@@ -372,6 +379,7 @@ reply_bytes_are (replies.Packet (packets.Dirty range)) = refl
 reply_bytes_are (replies.Packet packets.Complete) = refl
 reply_bytes_are (replies.Left woken) = refl
 reply_bytes_are (replies.Refused refusals.Range) = refl
+reply_bytes_are (replies.Refused (refusals.NotBegun number)) = refl
 reply_bytes_are (replies.Refused refusals.Detached) = refl
 reply_bytes_are (replies.Refused refusals.NotTrap) = refl
 reply_bytes_are (replies.Refused refusals.Fixed) = refl
@@ -387,6 +395,7 @@ reply_shortened : (reply : Reply) → short_reply_words (reply_forms.kind_of rep
 reply_shortened (replies.Bytes bytes) = refl
 reply_shortened replies.Done = refl
 reply_shortened replies.Waiting = refl
+reply_shortened (replies.Began number) = refl
 reply_shortened replies.Noted = refl
 reply_shortened replies.Empty = refl
 reply_shortened replies.Finished = refl
@@ -404,6 +413,7 @@ reply_shortened (replies.Packet (packets.Dirty range)) = refl
 reply_shortened (replies.Packet packets.Complete) = refl
 reply_shortened (replies.Left woken) = refl
 reply_shortened (replies.Refused refusals.Range) = refl
+reply_shortened (replies.Refused (refusals.NotBegun number)) = refl
 reply_shortened (replies.Refused refusals.Detached) = refl
 reply_shortened (replies.Refused refusals.NotTrap) = refl
 reply_shortened (replies.Refused refusals.Fixed) = refl
@@ -419,6 +429,7 @@ reply_short_allowed : (reply : Reply) → reply_allowed reply ≡ true → reply
 reply_short_allowed (replies.Bytes bytes) e = refl
 reply_short_allowed replies.Done e = e
 reply_short_allowed replies.Waiting e = e
+reply_short_allowed (replies.Began number) e = e
 reply_short_allowed replies.Noted e = e
 reply_short_allowed replies.Empty e = e
 reply_short_allowed replies.Finished e = e
@@ -439,6 +450,7 @@ reply_short_few : (reply : Reply) → reply_bytes (short_reply reply) ≤ most_b
 reply_short_few (replies.Bytes bytes) = omega arith
 reply_short_few replies.Done = omega arith
 reply_short_few replies.Waiting = omega arith
+reply_short_few (replies.Began number) = omega arith
 reply_short_few replies.Noted = omega arith
 reply_short_few replies.Empty = omega arith
 reply_short_few replies.Finished = omega arith
@@ -459,6 +471,7 @@ reply_bytes_fine : (reply : Reply) → reply_allowed reply ≡ true → AreFine 
 reply_bytes_fine (replies.Bytes bytes) e = bytes_fine bytes e
 reply_bytes_fine replies.Done e = (refl, omega arith)
 reply_bytes_fine replies.Waiting e = (refl, omega arith)
+reply_bytes_fine (replies.Began number) e = (refl, omega arith)
 reply_bytes_fine replies.Noted e = (refl, omega arith)
 reply_bytes_fine replies.Empty e = (refl, omega arith)
 reply_bytes_fine replies.Finished e = (refl, omega arith)
@@ -476,10 +489,10 @@ reply_bytes_fine (replies.Left woken) e = (refl, omega arith)
 reply_bytes_fine (replies.Refused why) e = (refl, omega arith)
 
 -- replies of one row of words are one
-pub reply_one : (a b : Reply) → reply_allowed a ≡ true → reply_allowed b ≡ true → reply_words a ≡ reply_words b → a ≡ b
-reply_one a b allowed also e =
+pub reply_one : (numbers : Bool) (a b : Reply) → reply_allowed a ≡ true → reply_allowed b ≡ true → is_known numbers a ≡ true → is_known numbers b ≡ true → reply_words a ≡ reply_words b → a ≡ b
+reply_one numbers a b allowed also known one e =
     let kind : reply_forms.kind_of a ≡ reply_forms.kind_of b =
-    some_is (reply_forms.kind_of a) (reply_forms.kind_of b) (sym (reply_forms.reply_found a) ∙ ap of_replies.reply_kind e ∙ reply_forms.reply_found b) in
+    some_is (reply_forms.kind_of a) (reply_forms.kind_of b) (sym (reply_forms.reply_found numbers a known) ∙ ap (of_replies.reply_kind numbers) e ∙ reply_forms.reply_found numbers b one) in
     let words : reply_words (short_reply a) ≡ reply_words (short_reply b) = sym (reply_shortened a) ∙ ap₂ short_reply_words kind e ∙ reply_shortened b in
     let kinds : reply_forms.kind_of (short_reply a) ≡ reply_forms.kind_of (short_reply b) = reply_same_kind a ∙ kind ∙ sym (reply_same_kind b) in
     let first = reply_forms.reply_again (short_reply a) (reply_short_allowed a allowed) (reply_short_few a) in

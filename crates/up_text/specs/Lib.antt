@@ -1,4 +1,5 @@
 pub mod Limits
+pub mod Versions
 pub mod Text
 pub mod Reading
 pub mod Allowed

@@ -1,6 +1,7 @@
 ghost use Rattle.std.specs.Prelude.{◌≡◌};
-ghost use Rattle.up_words.specs.Steps.{Gives};
-ghost use Rattle.up_text.specs.Reading.{birth_in, has_name, journal_line, limit_in};
+ghost use Rattle.up_words.specs.Steps.{Gives, or_why};
+ghost use Rattle.up_words.specs.declared.fault.Why.TheVariants.{Word};
+ghost use Rattle.up_text.specs.Reading.{birth_in, has_name, journal_line, limit_in, mode_in};
 
 use crate::journals::Named;
 use crate::stage::{Part, Stage};
@@ -38,8 +39,19 @@ fn read_limit(pages: u32, word: &[u8]) -> Result<Option<u32>, Stop>
     Ok(Some(most as u32))
 }
 
-fn read_birth(words: &Words<'_>, trap: bool, image: bool) -> Result<Birth, Stop>
-    ensures { Gives (λ birth. birth) result (birth_in words.now trap image) }
+// Whether the journal is numbered, where the text says so.
+fn read_mode(numbers: bool, word: &[u8]) -> Result<bool, Stop>
+    ensures { Gives (λ numbered. numbered) result (or_why Word (mode_in numbers word.now)) }
+{
+    if numbers {
+        read_flag(b"numbered", b"ranged", word)
+    } else {
+        Ok(false)
+    }
+}
+
+fn read_birth(words: &Words<'_>, trap: bool, image: bool, numbered: bool) -> Result<Birth, Stop>
+    ensures { Gives (λ birth. birth) result (birth_in words.now trap image numbered) }
 {
     let pages = read_count(SIZES, words.at(2))?;
     let limit = read_limit(pages, words.at(3))?;
@@ -52,20 +64,27 @@ fn read_birth(words: &Words<'_>, trap: bool, image: bool) -> Result<Birth, Stop>
         users: users as u32,
         pagers: pagers as u32,
         image,
+        numbered,
     })
 }
 
-/// The line that begins a journal.
-pub fn read_journal_line(alloc: Global, part: Part, words: &Words<'_>) -> Result<Stage, Stop>
-    ensures { Gives (λ next. next) result (journal_line part words.now) }
+/// The line that begins a journal, in a text with or without numbers of begins.
+pub fn read_journal_line(
+    alloc: Global,
+    numbers: bool,
+    part: Part,
+    words: &Words<'_>,
+) -> Result<Stage, Stop>
+    ensures { Gives (λ next. next) result (journal_line numbers part words.now) }
 {
     let trap = read_flag(b"trap", b"free", words.at(4))?;
     let image = read_flag(b"image", b"-", words.at(7))?;
+    let numbered = read_mode(numbers, words.at(8))?;
     let name = words.at(1);
     if !spells_name(name) || knows(part.journals.as_slice(), name) {
         return Err(Stop::Found(Why::Name));
     }
-    let birth = read_birth(words, trap, image)?;
+    let birth = read_birth(words, trap, image, numbered)?;
     if part.journals.len() >= JOURNALS {
         return Err(Stop::Found(Why::Limit));
     }

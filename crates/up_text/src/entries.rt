@@ -34,44 +34,55 @@ pub struct Spelled {
     pub reply: SpelledReply,
 }
 
-fn read_call_kind(words: &Tail<'_, '_>) -> Result<CallKind, Stop>
-    ensures { Gives (λ kind. kind) result (or_why Word (call_kind words.now)) }
+fn read_call_kind(numbered: bool, words: &Tail<'_, '_>) -> Result<CallKind, Stop>
+    ensures { Gives (λ kind. kind) result (or_why Word (call_kind numbered words.now)) }
 {
-    match find_call(words) {
+    match find_call(numbered, words) {
         None => Err(Stop::Found(Why::Word)),
         Some(kind) => Ok(kind),
     }
 }
 
-fn read_reply_kind(words: &Tail<'_, '_>) -> Result<ReplyKind, Stop>
-    ensures { Gives (λ kind. kind) result (or_why Word (reply_kind words.now)) }
+fn read_reply_kind(numbers: bool, words: &Tail<'_, '_>) -> Result<ReplyKind, Stop>
+    ensures { Gives (λ kind. kind) result (or_why Word (reply_kind numbers words.now)) }
 {
-    match find_reply(words) {
+    match find_reply(numbers, words) {
         None => Err(Stop::Found(Why::Word)),
         Some(kind) => Ok(kind),
     }
 }
 
-fn read_forms(alloc: Global, words: &Words<'_>) -> Result<Forms, Stop>
-    ensures { Gives (λ forms. forms) result (forms_in words.now) }
+fn read_forms(
+    alloc: Global,
+    numbers: bool,
+    numbered: bool,
+    words: &Words<'_>,
+) -> Result<Forms, Stop>
+    ensures { Gives (λ forms. forms) result (forms_in numbers numbered words.now) }
 {
     let deed = Tail::new(words, 3);
-    let call = read_call_kind(&deed)?;
+    let call = read_call_kind(numbered, &deed)?;
     if !deed.reads(call.size(), b"->") {
         return Err(Stop::Found(Why::Word));
     }
     let answer = Tail::new(words, call.size() + 4);
-    let reply = read_reply_kind(&answer)?;
+    let reply = read_reply_kind(numbers, &answer)?;
     if !fits_list(alloc, reply, &answer)? {
         return Err(Stop::Found(Why::Word));
     }
     Ok(Forms { call, reply })
 }
 
-fn read_entry(alloc: Global, next: u64, words: &Words<'_>) -> Result<Spelled, Stop>
-    ensures { Gives (λ entry. entry) result (entry_in next words.now) }
+fn read_entry(
+    alloc: Global,
+    numbers: bool,
+    numbered: bool,
+    next: u64,
+    words: &Words<'_>,
+) -> Result<Spelled, Stop>
+    ensures { Gives (λ entry. entry) result (entry_in numbers numbered next words.now) }
 {
-    let forms = read_forms(alloc, words)?;
+    let forms = read_forms(alloc, numbers, numbered, words)?;
     let position = read_between(0, TICKETS, words.at(0))?;
     let who = read_count(COUNTS, words.at(1))?;
     let epoch = read_between(0, TICKETS, words.at(2))?;
@@ -118,13 +129,15 @@ fn fill_entry(alloc: Global, entry: Spelled) -> Result<Entry, Memory>
 /// An entry's line: one entry more in the open journal. The bytes are counted before they take memory.
 pub fn read_entry_line(
     alloc: Global,
+    numbers: bool,
     part: Part,
     current: Named,
     words: &Words<'_>,
 ) -> Result<Stage, Stop>
-    ensures { Gives (λ next. next) result (entry_line part current words.now) }
+    ensures { Gives (λ next. next) result (entry_line numbers part current words.now) }
 {
-    let entry = read_entry(alloc, current.entries.len() as u64, words)?;
+    let next = current.entries.len() as u64;
+    let entry = read_entry(alloc, numbers, current.birth.numbered, next, words)?;
     let bytes = u64::from(part.bytes) + count_bytes(&entry);
     if BYTES < bytes {
         return Err(Stop::Found(Why::Limit));

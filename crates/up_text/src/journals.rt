@@ -1,8 +1,5 @@
 use up_model::{Birth, Entries};
-use up_num::{Bytes, Items};
-
-/// The journals of some objects, in order.
-pub type Journals = Items<Named>;
+use up_num::Bytes;
 
 /// The journal of an object, oldest entry first, with the object's name and what it was born with.
 #[derive(Drop)]

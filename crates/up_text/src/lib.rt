@@ -7,8 +7,10 @@ mod journals;
 pub mod laws;
 mod reading;
 mod stage;
+mod versioned;
 mod writing;
 
-pub use journals::{Journals, Named};
+pub use journals::Named;
 pub use reading::read_journals;
+pub use versioned::Journals;
 pub use writing::write_journals;

@@ -1,19 +1,19 @@
-ghost use Rattle.std.specs.Prelude.{◌≡◌, ◌≤◌, IfOk, List, Ok, length, true};
+ghost use Rattle.std.specs.Prelude.{◌≡◌, ◌≤◌, IfOk, Ok, length, true};
 ghost use Rattle.up_words.specs.Steps.{Gives, GivesText, at_line};
 ghost use Rattle.up_words.specs.Words.{split};
 ghost use Rattle.up_text.specs.Limits.{longest_text};
 ghost use Rattle.up_text.specs.Text.{text};
 ghost use Rattle.up_text.specs.Allowed.{are_within};
-ghost use Rattle.up_text.specs.declared.journals.Named.{Named};
-ghost use Rattle.up_text.specs.Reading.{between_line, end_line, ended, journals_of, last_step, line_step, lines_of, within_line};
+ghost use Rattle.up_text.specs.Versions.{Versioned, is_version};
+ghost use Rattle.up_text.specs.Reading.{between_line, birth_size, end_line, ended, journals_of, last_step, line_step, lines_of, version_in, within_line};
 
 use crate::births::read_journal_line;
 use crate::entries::read_entry_line;
-use crate::journals::{Journals, Named};
+use crate::journals::Named;
 use crate::stage::{Part, Stage};
+use crate::versioned::Journals;
 use std::alloc::Global;
 use up_fields::TICKETS;
-use up_num::Items;
 use up_words::{ReadFault, Stop, Why, Words, front, read_between, read_words};
 
 /// The greatest length of a text.
@@ -37,14 +37,25 @@ fn read_end_line(part: Part, current: Named, words: &Words<'_>) -> Result<Stage,
     Ok(Stage::Between(Part { journals, bytes }))
 }
 
-fn read_between_line(alloc: Global, part: Part, words: &Words<'_>) -> Result<Stage, Stop>
-    ensures { Gives (λ next. next) result (between_line part words.now) }
+fn birth_words(numbers: bool) -> usize
+    ensures { result ≡ birth_size numbers }
+{
+    if numbers { 9 } else { 8 }
+}
+
+fn read_between_line(
+    alloc: Global,
+    numbers: bool,
+    part: Part,
+    words: &Words<'_>,
+) -> Result<Stage, Stop>
+    ensures { Gives (λ next. next) result (between_line numbers part words.now) }
 {
     if words.has(0, b"done", 1) {
         let Part { journals, bytes: _ } = part;
         Ok(Stage::Ended(journals))
-    } else if words.has(0, b"journal", 8) {
-        read_journal_line(alloc, part, words)
+    } else if words.has(0, b"journal", birth_words(numbers)) {
+        read_journal_line(alloc, numbers, part, words)
     } else {
         Err(Stop::Found(Why::Word))
     }
@@ -52,29 +63,58 @@ fn read_between_line(alloc: Global, part: Part, words: &Words<'_>) -> Result<Sta
 
 fn read_within_line(
     alloc: Global,
+    numbers: bool,
     part: Part,
     current: Named,
     words: &Words<'_>,
 ) -> Result<Stage, Stop>
-    ensures { Gives (λ next. next) result (within_line part current words.now) }
+    ensures { Gives (λ next. next) result (within_line numbers part current words.now) }
 {
     if words.reads(0, b"end") {
         read_end_line(part, current, words)
     } else {
-        read_entry_line(alloc, part, current, words)
+        read_entry_line(alloc, numbers, part, current, words)
+    }
+}
+
+// The version that the first line names.
+fn read_version(line: &[u8]) -> Result<u32, Stop>
+    ensures value { Gives (λ version. version) result (version_in line.now) }
+    ensures known { IfOk result (λ version. is_version version ≡ true) }
+{
+    if line == b"pagerd-journal 1".as_slice() {
+        Ok(1)
+    } else if line == b"pagerd-journal 2".as_slice() {
+        Ok(2)
+    } else {
+        Err(Stop::Found(Why::Header))
     }
 }
 
 fn read_header(alloc: Global, line: &[u8]) -> Result<Stage, Stop>
     ensures { Gives (λ next. next) result (line_step Stage.Header line.now) }
 {
-    if line != b"pagerd-journal 1".as_slice() {
-        return Err(Stop::Found(Why::Header));
-    }
+    let version = read_version(line)?;
     Ok(Stage::Between(Part {
-        journals: Items::new(alloc),
+        journals: Journals::new(alloc, version),
         bytes: 0,
     }))
+}
+
+fn read_line_between(alloc: Global, part: Part, line: &[u8]) -> Result<Stage, Stop>
+    ensures { Gives (λ next. next) result (line_step (Stage.Between part) line.now) }
+{
+    let words = read_words(alloc, line)?;
+    let numbers = part.journals.has_numbers();
+    read_between_line(alloc, numbers, part, &words)
+}
+
+fn read_line_within(alloc: Global, part: Part, current: Named, line: &[u8]) -> Result<Stage, Stop>
+    ensures { Gives (λ next. next) result (line_step (Stage.Within part current) line.now) }
+{
+    let words = read_words(alloc, line)?;
+    let numbers = part.journals.has_numbers();
+    read_within_line(alloc, numbers, part, current, &words)
 }
 
 fn read_line(alloc: Global, stage: Stage, line: &[u8]) -> Result<Stage, Stop>
@@ -82,14 +122,8 @@ fn read_line(alloc: Global, stage: Stage, line: &[u8]) -> Result<Stage, Stop>
 {
     match stage {
         Stage::Header => read_header(alloc, line),
-        Stage::Between(part) => {
-            let words = read_words(alloc, line)?;
-            read_between_line(alloc, part, &words)
-        }
-        Stage::Within(part, current) => {
-            let words = read_words(alloc, line)?;
-            read_within_line(alloc, part, current, &words)
-        }
+        Stage::Between(part) => read_line_between(alloc, part, line),
+        Stage::Within(part, current) => read_line_within(alloc, part, current, line),
         Stage::Ended(_) => Err(Stop::Found(Why::Word)),
     }
 }
@@ -155,7 +189,7 @@ fn read_lines(alloc: Global, text: &[u8]) -> Result<Journals, ReadFault>
 /// first reason there.
 pub fn read_journals(alloc: Global, bytes: &[u8]) -> Result<Journals, ReadFault>
     ensures exact { GivesText (λ journals. journals) result (journals_of bytes.now) }
-    ensures found { (journals : List Named) → are_within journals ≡ true → bytes.now ≡ text journals → GivesText (λ journals. journals) result (Ok journals) }
+    ensures found { (journals : Versioned) → are_within journals ≡ true → bytes.now ≡ text journals → GivesText (λ journals. journals) result (Ok journals) }
     ensures sound { IfOk result (λ journals. (bytes.now ≡ text journals) × (are_within journals ≡ true)) }
 {
     if TEXT < bytes.len() {

@@ -1,4 +1,5 @@
-use crate::journals::{Journals, Named};
+use crate::journals::Named;
+use crate::versioned::Journals;
 
 /// The journals read so far, and how many bytes their byte lists spell, those of an open journal too.
 #[derive(Drop)]

@@ -3,9 +3,10 @@ ghost use Rattle.std.specs.List.{flat_map};
 ghost use Rattle.up_fields.specs.Text.{flag_text, line_of, line_text, spaced};
 ghost use Rattle.up_calls.specs.Text.{call_words};
 ghost use Rattle.up_replies.specs.Text.{reply_words};
-ghost use Rattle.up_text.specs.Text.{birth_words, end_words, entries_text, entry_words, journal_text, limit_text, text};
+ghost use Rattle.up_text.specs.Text.{birth_words, end_words, entries_text, entry_words, header, journal_text, limit_text, mode_words, text};
 
-use crate::journals::{Journals, Named};
+use crate::journals::Named;
+use crate::versioned::Journals;
 use up_calls::put_call;
 use up_fields::{put_flag, put_next, put_number, put_word};
 use up_model::{Birth, Call, Entry, Reply};
@@ -25,38 +26,51 @@ pub fn write_journals(journals: &Journals, out: &mut Vec<u8>) -> Result<(), Memo
 fn put_text(out: &mut Vec<u8>, journals: &Journals) -> Result<(), Memory>
     ensures { OnOk result (out.new.items ≡ out.old.items ++ text journals.now) }
 {
-    out.extend_from_slice(b"pagerd-journal 1\n")?;
-    put_journals(out, journals.as_slice())?;
+    let numbers = journals.has_numbers();
+    put_header(out, numbers)?;
+    put_journals(out, numbers, journals.as_slice())?;
     out.extend_from_slice(b"done\n")
 }
 
-fn put_journals(out: &mut Vec<u8>, journals: &[Named]) -> Result<(), Memory>
-    ensures { OnOk result (out.new.items ≡ out.old.items ++ flat_map journal_text journals.now) }
+// The first line.
+fn put_header(out: &mut Vec<u8>, numbers: bool) -> Result<(), Memory>
+    ensures { OnOk result (out.new.items ≡ out.old.items ++ (header numbers ++ codes "\n")) }
+{
+    if numbers {
+        out.extend_from_slice(b"pagerd-journal 2\n")
+    } else {
+        out.extend_from_slice(b"pagerd-journal 1\n")
+    }
+}
+
+fn put_journals(out: &mut Vec<u8>, numbers: bool, journals: &[Named]) -> Result<(), Memory>
+    ensures { OnOk result (out.new.items ≡ out.old.items ++ flat_map (journal_text numbers) journals.now) }
 {
     let mut rest = journals;
     while let [journal, after @ ..] = rest {
-        put_journal(out, journal)?;
+        put_journal(out, numbers, journal)?;
         rest = after;
     }
     Ok(())
 }
 
-fn put_journal(out: &mut Vec<u8>, journal: &Named) -> Result<(), Memory>
-    ensures { OnOk result (out.new.items ≡ out.old.items ++ journal_text journal.now) }
+fn put_journal(out: &mut Vec<u8>, numbers: bool, journal: &Named) -> Result<(), Memory>
+    ensures { OnOk result (out.new.items ≡ out.old.items ++ journal_text numbers journal.now) }
 {
-    put_birth(out, journal.name.as_slice(), &journal.birth)?;
+    put_birth(out, numbers, journal.name.as_slice(), &journal.birth)?;
     out.extend_from_slice(b"\n")?;
     put_entries(out, journal.entries.as_slice())?;
     put_end(out, journal.entries.len() as u64)
 }
 
-fn put_birth(out: &mut Vec<u8>, name: &[u8], birth: &Birth) -> Result<(), Memory>
-    ensures { OnOk result (out.new.items ≡ out.old.items ++ line_of (birth_words name.now birth.now)) }
+fn put_birth(out: &mut Vec<u8>, numbers: bool, name: &[u8], birth: &Birth) -> Result<(), Memory>
+    ensures { OnOk result (out.new.items ≡ out.old.items ++ line_of (birth_words numbers name.now birth.now)) }
 {
     out.extend_from_slice(b"journal")?;
     put_word(out, name)?;
     put_size(out, birth)?;
-    put_bonds(out, birth)
+    put_bonds(out, birth)?;
+    put_mode(out, numbers, birth.numbered)
 }
 
 fn put_size(out: &mut Vec<u8>, birth: &Birth) -> Result<(), Memory>
@@ -73,6 +87,17 @@ fn put_bonds(out: &mut Vec<u8>, birth: &Birth) -> Result<(), Memory>
     put_next(out, u64::from(birth.users))?;
     put_next(out, u64::from(birth.pagers))?;
     put_flag(out, b"image", b"-", birth.image)
+}
+
+// Whether the journal is numbered, where the text says so.
+fn put_mode(out: &mut Vec<u8>, numbers: bool, numbered: bool) -> Result<(), Memory>
+    ensures { OnOk result (out.new.items ≡ out.old.items ++ spaced (mode_words numbers numbered)) }
+{
+    if numbers {
+        put_flag(out, b"numbered", b"ranged", numbered)
+    } else {
+        Ok(())
+    }
 }
 
 fn put_limit(out: &mut Vec<u8>, limit: Option<u32>) -> Result<(), Memory>

@@ -1,23 +1,23 @@
-use Rattle.std.proofs.Common.{◌∙◌, ap, sym, subst, arith, List, Result}
+use Rattle.std.proofs.Common.{◌∙◌, ap, sym, subst, arith, Result}
 use Rattle.std.proofs.lemmas.Result.{err_from_is_err_and}
 use Rattle.up_words.specs.Steps.{FailsText, GivesText}
 use Rattle.up_words.specs.declared.fault.Fault.{Fault}
 use Rattle.up_text.specs.Reading.{lines_of}
-use Rattle.up_text.specs.declared.journals.Named.{Named}
+use Rattle.up_text.specs.Versions.{Versioned}
 use Rattle.up_text.proofs.Lines.{lines_more, lines_fail, lines_last}
 use Rattle.up_text.proofs.reading.read_lines.Goals as goal
 
 pub returns-in-None : goal.returns-in-None
 returns-in-None c =
     let cut = rw c.in-None.is at c.front.ensures.lines in
-    subst (λ (r : Result (List Named) Fault). GivesText (λ j. j) c.end_at.result r) (sym (lines_last c.loop-stage.number c.loop-stage.stage c.front.result.0.now) ∙ (sym (ap (lines_of c.loop-stage.number c.loop-stage.stage) cut) ∙ c.loop-stage.invariant.told)) c.end_at.ensures
+    subst (λ (r : Result Versioned Fault). GivesText (λ j. j) c.end_at.result r) (sym (lines_last c.loop-stage.number c.loop-stage.stage c.front.result.0.now) ∙ (sym (ap (lines_of c.loop-stage.number c.loop-stage.stage) cut) ∙ c.loop-stage.invariant.told)) c.end_at.ensures
 
 pub returns-in_err-stage-in-Some : goal.returns-in_err-stage-in-Some
 returns-in_err-stage-in-Some c =
     let p = err_from_is_err_and c.from_residual.result c.from_residual.ensures.1 in
     let cut = rw c.in-Some.is at c.front.ensures.lines in
     let fault = c.in_err-stage-in-Some.field-0.0 in
-    rw (p.1, p.2) (subst (λ (r : Result (List Named) Fault). FailsText fault r) (sym (ap (lines_of c.loop-stage.number c.loop-stage.stage) cut) ∙ c.loop-stage.invariant.told)
+    rw (p.1, p.2) (subst (λ (r : Result Versioned Fault). FailsText fault r) (sym (ap (lines_of c.loop-stage.number c.loop-stage.stage) cut) ∙ c.loop-stage.invariant.told)
     (lines_fail fault c.loop-stage.number c.loop-stage.stage c.front.result.0.now c.in-Some.after.now c.in_err-stage-in-Some.ensures))
 
 pub loop-stage-preserved : goal.loop-stage-preserved
