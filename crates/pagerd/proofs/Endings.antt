@@ -9,7 +9,7 @@ use Rattle.up_script.specs.Reading.{script_of}
 use Rattle.up_script.specs.declared.script.Script.{Script}
 use Rattle.up_text.specs.Limits.{longest_text}
 use Rattle.up_text.specs.Reading.{journals_of}
-use Rattle.up_text.specs.declared.journals.Named.{Named}
+use Rattle.up_text.specs.Versions.{Versioned}
 use Rattle.up_check.specs.Faults.{AreLegal}
 use Rattle.up_check.proofs.Illegal.{no_first}
 use Rattle.std.proofs.lemmas.Slice.Eq.{bytes_eq-Decides}
@@ -80,7 +80,7 @@ script_fits bytes script e = elim (nat_le (length bytes) longest_script) as (λ 
   | false ↦ λ long. let both = rw long at e in cc
 ] refl
 
-journals_fit : (bytes : List ℕ) (journals : List Named) → journals_of bytes ≡ Ok journals → nat_le (length bytes) longest_text ≡ true
+journals_fit : (bytes : List ℕ) (journals : Versioned) → journals_of bytes ≡ Ok journals → nat_le (length bytes) longest_text ≡ true
 journals_fit bytes journals e = elim (nat_le (length bytes) longest_text) as (λ b. nat_le (length bytes) longest_text ≡ b → b ≡ true) [
   | true ↦ λ q. refl
   | false ↦ λ long. let both = rw long at e in cc
@@ -92,7 +92,7 @@ script_read left now bytes s r =
     ap script_of (all_read longest_script s.bytes now bytes (script_fits s.bytes s.script s.spelled) (subst (λ left. WasRead longest_script left now bytes) s.told r)) ∙ s.spelled
 
 -- the same of journals
-journals_read : (left now : Option (List ℕ)) (bytes : List ℕ) (journals : List Named) → HasJournals left journals → WasRead longest_text left now bytes → journals_of bytes ≡ Ok journals
+journals_read : (left now : Option (List ℕ)) (bytes : List ℕ) (journals : Versioned) → HasJournals left journals → WasRead longest_text left now bytes → journals_of bytes ≡ Ok journals
 journals_read left now bytes journals s r =
     ap journals_of (all_read longest_text s.bytes now bytes (journals_fit s.bytes journals s.spelled) (subst (λ left. WasRead longest_text left now bytes) s.told r)) ∙ s.spelled
 
@@ -105,11 +105,11 @@ not_told bytes text script spelled built (inr u) =
     let line : None ≡ Some u.line = sym built ∙ ap unbuilt_line same ∙ u.first in cc
 
 -- journals that the text spells are the only ones, and have no fault
-same_journals : (bytes : List ℕ) (one other : List Named) → journals_of bytes ≡ Ok one → journals_of bytes ≡ Ok other → one ≡ other
-same_journals bytes one other p q = let both : (let r : Result (List Named) Fault = Ok one in r) ≡ Ok other = sym p ∙ q in cc
+same_journals : (bytes : List ℕ) (one other : Versioned) → journals_of bytes ≡ Ok one → journals_of bytes ≡ Ok other → one ≡ other
+same_journals bytes one other p q = let both : (let r : Result Versioned Fault = Ok one in r) ≡ Ok other = sym p ∙ q in cc
 
-not_faulty : (bytes : List ℕ) (journals : List Named) (fault : Fault) → journals_of bytes ≡ Ok journals → journals_of bytes ≡ Err fault → ⊥
-not_faulty bytes journals fault p q = let both : (let r : Result (List Named) Fault = Ok journals in r) ≡ Err fault = sym p ∙ q in cc
+not_faulty : (bytes : List ℕ) (journals : Versioned) (fault : Fault) → journals_of bytes ≡ Ok journals → journals_of bytes ≡ Err fault → ⊥
+not_faulty bytes journals fault p q = let both : (let r : Result Versioned Fault = Ok journals in r) ≡ Err fault = sym p ∙ q in cc
 
 -- of a script that is done today no fault was told, of the text or of a line that isn't built
 pub no_unread : (words : List (List ℕ)) (left now before after : Option (List ℕ)) → IsStep words → IsScript left →
@@ -125,7 +125,7 @@ pub no_illegal : (words : List (List ℕ)) (left now before after : Option (List
 no_illegal words left now before after step t = two_commands words step t.is.0
 
 -- of journals no fault of the text was told
-pub no_journals_unread : (words : List (List ℕ)) (left now before after : Option (List ℕ)) (journals : List Named) → IsCheck words → HasJournals left journals →
+pub no_journals_unread : (words : List (List ℕ)) (left now before after : Option (List ℕ)) (journals : Versioned) → IsCheck words → HasJournals left journals →
     Took text_fault words left now before after ⊎ (Took unbuilt_fault words left now before after ⊎ Took journals_fault words left now before after) → ⊥
 no_journals_unread words left now before after journals check s (inl t) = two_commands words t.is.0 check
 no_journals_unread words left now before after journals check s (inr (inl t)) = two_commands words t.is.0 check
@@ -133,20 +133,20 @@ no_journals_unread words left now before after journals check s (inr (inr t)) =
     not_faulty t.is.1.bytes journals t.is.1.is.fault (journals_read left now t.is.1.bytes journals s t.is.1.read) t.is.1.is.found
 
 -- of legal journals no entry at fault was told
-pub not_illegal : (words : List (List ℕ)) (left now before after : Option (List ℕ)) (journals : List Named) → HasJournals left journals → AreLegal journals →
+pub not_illegal : (words : List (List ℕ)) (left now before after : Option (List ℕ)) (journals : Versioned) → HasJournals left journals → AreLegal journals.list →
     Took illegal_journals words left now before after → ⊥
 not_illegal words left now before after journals s legal t =
     let is = t.is.1.is in
-    no_first is.journals is.number is.place is.expected is.first
-    (subst AreLegal (same_journals t.is.1.bytes journals is.journals (journals_read left now t.is.1.bytes journals s t.is.1.read) is.spelled) legal)
+    no_first is.journals.list is.number is.place is.expected is.first
+    (subst (λ (js : Versioned). AreLegal js.list) (same_journals t.is.1.bytes journals is.journals (journals_read left now t.is.1.bytes journals s t.is.1.read) is.spelled) legal)
 
 -- of other journals it wasn't told that they are legal
-pub not_legal : (words : List (List ℕ)) (left now before after : Option (List ℕ)) (journals : List Named) → IsCheck words → HasJournals left journals → (AreLegal journals → ⊥) →
+pub not_legal : (words : List (List ℕ)) (left now before after : Option (List ℕ)) (journals : Versioned) → IsCheck words → HasJournals left journals → (AreLegal journals.list → ⊥) →
     Took whole_journals words left now before after ⊎ Took legal_journals words left now before after → ⊥
 not_legal words left now before after journals check s illegal (inl t) = two_commands words t.is.0 check
 not_legal words left now before after journals check s illegal (inr t) =
     let is = t.is.1.is in
-    illegal (subst AreLegal (sym (same_journals t.is.1.bytes journals is.journals (journals_read left now t.is.1.bytes journals s t.is.1.read) is.spelled)) is.legal)
+    illegal (subst (λ (js : Versioned). AreLegal js.list) (sym (same_journals t.is.1.bytes journals is.journals (journals_read left now t.is.1.bytes journals s t.is.1.read) is.spelled)) is.legal)
 
 -- where nothing else is left, all is done or memory ran out
 pub ends_written : (ended : Ended) → (ended ≡ Illegal → ⊥) → (ended ≡ Words → ⊥) → (ended ≡ Unread → ⊥) → (ended ≡ Source → ⊥) → (ended ≡ Sink → ⊥) →
@@ -193,7 +193,7 @@ no_script_done words left now before after all step told other (inl t) =
 no_script_done words left now before after all step told other (inr t) = two_commands words step t.is.0
 
 -- of a source that tells no journals it wasn't told that they are legal
-pub no_journals_legal : (words : List (List ℕ)) (left now before after : Option (List ℕ)) (all : List ℕ) → IsCheck words → left ≡ Some all → ((journals : List Named) → HasJournals left journals → ⊥) →
+pub no_journals_legal : (words : List (List ℕ)) (left now before after : Option (List ℕ)) (all : List ℕ) → IsCheck words → left ≡ Some all → ((journals : Versioned) → HasJournals left journals → ⊥) →
     Took whole_journals words left now before after ⊎ Took legal_journals words left now before after → ⊥
 no_journals_legal words left now before after all check told other (inl t) = two_commands words t.is.0 check
 no_journals_legal words left now before after all check told other (inr t) =
@@ -201,7 +201,7 @@ no_journals_legal words left now before after all check told other (inr t) =
     other made.is.journals (record { bytes = made.bytes; told = spells_left longest_text left now all made.bytes told (journals_fit made.bytes made.is.journals made.is.spelled) made.read; spelled = made.is.spelled })
 
 -- nor was an entry at fault told
-pub no_journals_illegal : (words : List (List ℕ)) (left now before after : Option (List ℕ)) (all : List ℕ) → left ≡ Some all → ((journals : List Named) → HasJournals left journals → ⊥) →
+pub no_journals_illegal : (words : List (List ℕ)) (left now before after : Option (List ℕ)) (all : List ℕ) → left ≡ Some all → ((journals : Versioned) → HasJournals left journals → ⊥) →
     Took illegal_journals words left now before after → ⊥
 no_journals_illegal words left now before after all told other t =
     let made = t.is.1 in

@@ -20,12 +20,12 @@ use Rattle.up_check.specs.Faults.{AreLegal, IsFirst}
 use Rattle.up_text.specs.Limits.{longest_text}
 use Rattle.up_text.specs.Reading.{journals_of}
 use Rattle.up_text.specs.Text.{text as journals_text}
-use Rattle.up_text.specs.declared.journals.Named.{Named}
+use Rattle.up_text.specs.Versions.{Versioned}
 
 -- the bytes spell a script that is done today, and this is the text of its journals
 pub record Spells (bytes text : List ℕ) : Type 0 where
   pub script : Script
-  pub journals : List Named
+  pub journals : Versioned
   pub spelled : script_of bytes ≡ Ok script
   pub built : unbuilt_line script ≡ None
   pub made : MakesJournals script journals
@@ -47,19 +47,19 @@ pub record HasUnbuilt (bytes text : List ℕ) : Type 0 where
 
 -- the bytes spell journals that are legal, and this text says so
 pub record SpellsLegal (bytes text : List ℕ) : Type 0 where
-  pub journals : List Named
+  pub journals : Versioned
   pub spelled : journals_of bytes ≡ Ok journals
-  pub legal : AreLegal journals
+  pub legal : AreLegal journals.list
   pub told : text ≡ codes "legal\n"
 
 -- the bytes spell journals that aren't all legal, and this text tells the first entry at fault
 pub record SpellsIllegal (bytes text : List ℕ) : Type 0 where
-  pub journals : List Named
+  pub journals : Versioned
   pub spelled : journals_of bytes ≡ Ok journals
   pub number : ℕ
   pub place : ℕ
   pub expected : Option Reply
-  pub first : IsFirst journals number place expected
+  pub first : IsFirst journals.list number place expected
   pub told : text ≡ illegal_text first.journal.name place expected
 
 -- the bytes are outside the grammar or a limit of journals, and this text tells their first fault
@@ -125,7 +125,7 @@ pub record IsScript (left : Option (List ℕ)) : Type 0 where
   pub built : unbuilt_line script ≡ None
 
 -- the source tells what it has left, and that spells these journals
-pub record HasJournals (left : Option (List ℕ)) (journals : List Named) : Type 0 where
+pub record HasJournals (left : Option (List ℕ)) (journals : Versioned) : Type 0 where
   pub bytes : List ℕ
   pub told : left ≡ Some bytes
   pub spelled : journals_of bytes ≡ Ok journals

@@ -1,17 +1,19 @@
 ghost use Rattle.std.specs.Prelude.{◌≡◌, ◌++◌, [], ◌∷◌, true, None, IfOk};
 ghost use Rattle.up_script.specs.Fit.{Fits};
 ghost use Rattle.up_script.specs.Sound.{is_sound};
+ghost use Rattle.up_text.specs.Versions.{is_version};
 ghost use Rattle.pagerd.specs.Built.{unbuilt_line};
 ghost use Rattle.pagerd.specs.Journals.{MakesJournals, named_from, name_one};
 
 use std::alloc::Global;
 use up_model::Entries;
-use up_num::{Items, Memory};
+use up_num::Memory;
 use up_script::{ObjectLine, Script};
 use up_stage::play;
 use up_text::{Journals, Named};
 
-/// Does a script's lines in file order, each as far as its actor comes, and gives the journals of its objects in their order.
+/// Does a script's lines in file order, each as far as its actor comes, and gives the journals of its objects in their
+/// order, in the script's version.
 pub fn journals_of(alloc: Global, script: &Script) -> Result<Journals, Memory>
     requires sound { is_sound script.now ≡ true }
     requires fits { Fits script.now }
@@ -19,14 +21,20 @@ pub fn journals_of(alloc: Global, script: &Script) -> Result<Journals, Memory>
     ensures { IfOk result (λ journals. MakesJournals script.now journals) }
 {
     let ended = play(alloc, script)?;
-    name_all(alloc, script.objects.as_slice(), ended)
+    name_all(alloc, script.version, script.objects.as_slice(), ended)
 }
 
 /// Gives each journal its object's name and birth.
-fn name_all(alloc: Global, objects: &[ObjectLine], ended: Vec<Entries>) -> Result<Journals, Memory>
-    ensures { IfOk result (λ journals. journals ≡ named_from objects.now ended.items) }
+fn name_all(
+    alloc: Global,
+    version: u32,
+    objects: &[ObjectLine],
+    ended: Vec<Entries>,
+) -> Result<Journals, Memory>
+    requires { is_version version ≡ true }
+    ensures { IfOk result (λ journals. journals ≡ record { version = version; list = named_from objects.now ended.items }) }
 {
-    let mut journals = Items::new(alloc);
+    let mut journals = Journals::new(alloc, version);
     for entries in ended {
         let at = journals.len();
         if at < objects.len() {
@@ -42,7 +50,7 @@ fn add_named(
     object: &ObjectLine,
     entries: Entries,
 ) -> Result<Journals, Memory>
-    ensures { IfOk result (λ more. more ≡ journals ++ name_one object.now entries ∷ []) }
+    ensures { IfOk result (λ more. more ≡ record journals { list = journals.list ++ name_one object.now entries ∷ [] }) }
 {
     let name = object.name.copy(alloc)?;
     let mut more = journals;

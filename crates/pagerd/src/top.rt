@@ -1,6 +1,6 @@
 ghost use Rattle.std.specs.Prelude.{◌≡◌, ◌≢◌, ◌≤◌, ◌↔◌, [], ◌∷◌, List, ℕ, map, string_bytes, IsTrue, IfOk, IfErr, Some, ◌⊎◌, Contains};
 ghost use Rattle.up_outside.specs.Cause.{Rose};
-ghost use Rattle.up_text.specs.declared.journals.Named.{Named};
+ghost use Rattle.up_text.specs.Versions.{Versioned};
 ghost use Rattle.up_check.specs.Faults.{AreLegal};
 ghost use Rattle.pagerd.specs.Generated.{IsGen, IsNoGen};
 ghost use Rattle.pagerd.specs.Top.{IsStep, IsCheck, Told, ToldFront, generated_line, IsSaid, IsAnswer, IsScript, HasJournals, Took, TookFront, whole_journals, words_fault, text_fault, unbuilt_fault, legal_journals, illegal_journals, journals_fault, status_of};
@@ -59,15 +59,15 @@ pub fn alone<S: Source, K: Sink>(
     ensures generated { (seed count : ℕ) → IsGen (map string_bytes words.now) seed count → (Rose (K.faults sink.old) (K.faults sink.new) → ⊥) → (result ≡ 0) ⊎ (result ≡ 7) }
 
     // Where neither count rose, journals are told to be legal exactly where they are.
-    ensures right { (journals : List Named) → IsCheck (map string_bytes words.now) → HasJournals (S.left source.old) journals → AreLegal journals
+    ensures right { (journals : Versioned) → IsCheck (map string_bytes words.now) → HasJournals (S.left source.old) journals → AreLegal journals.list
         → (Rose (S.faults source.old) (S.faults source.new) → ⊥) → (Rose (K.faults sink.old) (K.faults sink.new) → ⊥) → (result ≡ 0) ⊎ (result ≡ 7) }
-    ensures wrong { (journals : List Named) → IsCheck (map string_bytes words.now) → HasJournals (S.left source.old) journals → (AreLegal journals → ⊥)
+    ensures wrong { (journals : Versioned) → IsCheck (map string_bytes words.now) → HasJournals (S.left source.old) journals → (AreLegal journals.list → ⊥)
         → (Rose (S.faults source.old) (S.faults source.new) → ⊥) → (Rose (K.faults sink.old) (K.faults sink.new) → ⊥) → (result ≡ 1) ⊎ (result ≡ 7) }
 
     // And a text that isn't what the command reads is told to be that: at status 3 exactly.
     ensures no_script { (bytes : List ℕ) → IsStep (map string_bytes words.now) → S.left source.old ≡ Some bytes → (IsScript (S.left source.old) → ⊥)
         → (Rose (S.faults source.old) (S.faults source.new) → ⊥) → (Rose (K.faults sink.old) (K.faults sink.new) → ⊥) → (result ≡ 3) ⊎ (result ≡ 7) }
-    ensures no_journals { (bytes : List ℕ) → IsCheck (map string_bytes words.now) → S.left source.old ≡ Some bytes → ((journals : List Named) → HasJournals (S.left source.old) journals → ⊥)
+    ensures no_journals { (bytes : List ℕ) → IsCheck (map string_bytes words.now) → S.left source.old ≡ Some bytes → ((journals : Versioned) → HasJournals (S.left source.old) journals → ⊥)
         → (Rose (S.faults source.old) (S.faults source.new) → ⊥) → (Rose (K.faults sink.old) (K.faults sink.new) → ⊥) → (result ≡ 3) ⊎ (result ≡ 7) }
     ensures listed { Contains (0 ∷ 1 ∷ 2 ∷ 3 ∷ 4 ∷ 5 ∷ 7 ∷ []) result }
 {

@@ -30,7 +30,7 @@ object_of _ = None
 
 -- the caller of a call owes it what each call is owed
 abbrev pub IsProper : List Life → ℕ → Wish → Type 0
-IsProper lives who (wishes.Act object call) = (life : Life) → slice_get lives object ≡ Some life → IsTrue (proper life.journal who call)
+IsProper lives who (wishes.Act object call) = (life : Life) → slice_get lives object ≡ Some life → IsTrue (proper life.birth life.journal who call)
 IsProper lives who _ = Unit {0}
 
 -- what a call brings: a borrow a loaned frame or a scan for one, another call ordinary ones

@@ -144,7 +144,7 @@ impl Machine {
         requires object { object < length self.old.lives }
         requires own { AllAre (bank_of (banks_of self.old.pool) (kind_taken call)) (frames_of frames) }
         requires agrees { Agrees call frames }
-        requires proper { (life : Life) → slice_get self.old.lives object ≡ Some life → IsTrue (replies.proper life.journal who call) }
+        requires proper { (life : Life) → slice_get self.old.lives object ≡ Some life → IsTrue (replies.proper life.birth life.journal who call) }
         ensures acted { IfOk result (λ reply. Acted self.old self.new object who call reply) }
         ensures same { OnErr result (self.new.lives ≡ self.old.lives) }
         ensures stays { Stays self.old self.new }
@@ -214,7 +214,7 @@ fn act_on(
     requires kinds { (pool.old.ordinary.bank.kind ≡ OrdinaryKind) × (pool.old.loaned.bank.kind ≡ LoanedKind) }
     requires own { AllAre (bank_of object.old.banks (kind_taken call)) (frames_of frames) }
     requires agrees { Agrees call frames }
-    requires proper { IsTrue (replies.proper object.old.journal by.who call) }
+    requires proper { IsTrue (replies.proper object.old.birth object.old.journal by.who call) }
     ensures reply { IfOk result (λ reply. reply ≡ replies.reply object.old.birth object.old.journal by.who by.epoch call) }
     ensures ok { OnOk result (object.new ≡ after object.old by.who by.epoch call) }
     ensures err { OnErr result (object.new ≡ object.old) }

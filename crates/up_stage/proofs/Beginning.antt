@@ -9,7 +9,7 @@ use Rattle.up_model.specs.declared.entry.Birth.{Birth}
 use Rattle.up_model.specs.declared.entry.Entry.{Entry}
 use Rattle.up_script.specs.declared.script.ObjectLine.{ObjectLine}
 use Rattle.up_stage.proofs.Lining.{take_more}
-use Rattle.up_hands.specs.Handed.{Handed, empty_hand, is_fair, lives_from, new_life, ends_of, AllLegal}
+use Rattle.up_hands.specs.Handed.{Handed, births_in, empty_hand, is_fair, lives_from, new_life, ends_of, AllLegal}
 use Rattle.up_script.specs.Actions.{kind_of}
 use Rattle.up_script.specs.Sound.{is_sound_object, is_fair_object, is_sound, is_sound_line, are_sound_lines}
 use Rattle.up_script.specs.declared.script.ActorLine.{ActorLine}
@@ -24,6 +24,7 @@ use Rattle.up_stage.specs.Ready.{ActorKeeps, Rests, AtRest}
 use Rattle.up_stage.specs.Worlds.{StandsAtRest}
 use Rattle.up_stage.specs.Lines.{Paced, GoesThrough, is_own_line}
 use Rattle.up_stage.specs.Played.{levels_in, births_of, setting_of, AreJournalsOf, is_played_line, is_bound_to, IsPlayable, are_able, IsNew}
+use Rattle.up_stage.specs.Calls.{suits_births}
 use Rattle.up_stage.proofs.Lives.{some_same}
 
 pub unborn_count : (n : ℕ) (actors : List ActorLine) → length (unborn_from n actors) ≡ length actors
@@ -139,19 +140,25 @@ both : (a b : Bool) → a ≡ true → b ≡ true → (a && b) ≡ true
 both true b p q = q
 both false b p q = absurd cc
 
-able_all : (objects actors : ℕ) (lines : List ActorLine) (xs : List Line) → are_sound_lines objects actors xs ≡ true → list_all (is_played_line lines) xs ≡ true → are_able objects actors xs ≡ true
-able_all objects actors lines [] sound played = refl
-able_all objects actors lines (x ∷ xs) sound played =
-    both _ _ (both _ _ (and_left (is_sound_line objects actors x) _ sound) (and_right _ _ (and_left (is_played_line lines x) _ played)))
-    (able_all objects actors lines xs (and_right (is_sound_line objects actors x) _ sound) (and_right (is_played_line lines x) _ played))
+able_all : (births : List Birth) (actors : ℕ) (lines : List ActorLine) (xs : List Line) → are_sound_lines (length births) actors xs ≡ true → list_all (is_played_line lines) xs ≡ true → list_all (λ (x : Line). suits_births births x.action) xs ≡ true
+    → are_able births actors xs ≡ true
+able_all births actors lines [] sound played suits = refl
+able_all births actors lines (x ∷ xs) sound played suits =
+    let mine = is_sound_line (length births) actors x in
+    both _ _ (both _ _ (both _ _ (and_left mine _ sound) (and_right _ _ (and_left (is_played_line lines x) _ played))) (and_left (suits_births births x.action) _ suits))
+    (able_all births actors lines xs (and_right mine _ sound) (and_right (is_played_line lines x) _ played) (and_right (suits_births births x.action) _ suits))
 
-pub able_lines : (script : Script) (stage : Staged) → IsPlayable script → IsNew script stage → are_able (length stage.hands.lives) (length stage.actors) script.lines ≡ true
+new_births : (births : List Birth) → births_in (map new_life births) ≡ births
+new_births [] = refl
+new_births (b ∷ bs) = ap (λ more. b ∷ more) (new_births bs)
+
+pub able_lines : (script : Script) (stage : Staged) → IsPlayable script → IsNew script stage → are_able (births_in stage.hands.lives) (length stage.actors) script.lines ≡ true
 able_lines script stage able is =
-    let objects : length stage.hands.lives ≡ length script.objects =
-    ap (λ (s : Staged). length s.hands.lives) is ∙ length-map (births_of script.objects) new_life ∙ length-map script.objects (λ object. object.birth) in
+    let births : births_in stage.hands.lives ≡ births_of script.objects = ap (λ (s : Staged). births_in s.hands.lives) is ∙ new_births (births_of script.objects) in
+    let objects : length script.objects ≡ length (births_of script.objects) = sym (length-map script.objects (λ object. object.birth)) in
     let actors : length stage.actors ≡ length script.actors = ap (λ (s : Staged). length s.actors) is ∙ unborn_count 0 script.actors in
-    rw (objects, actors) (able_all (length script.objects) (length script.actors) script.actors script.lines
-    (and_right _ _ able.sound) able.lines)
+    rw (births, actors) (able_all (births_of script.objects) (length script.actors) script.actors script.lines
+    (subst (λ (n : ℕ). are_sound_lines n (length script.actors) script.lines ≡ true) objects (and_right _ _ able.sound)) able.lines able.modes)
 
 own_all : (script : Script) (xs : List Line) → list_all (is_played_line script.actors) xs ≡ true → list_all (is_own_line (setting_of script)) xs ≡ true
 own_all script [] played = refl

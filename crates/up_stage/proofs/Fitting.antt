@@ -1,5 +1,5 @@
 -- The calls of a sound line are fit.
-use Rattle.std.proofs.Common.{◌≡◌, ℕ, ◌+◌, ◌-◌, ◌*◌, ◌/◌, ◌%◌, ◌<◌, ◌≤◌, ◌==◌, ◌&&◌, Bool, true, false, Some, List, [], ◌∷◌, zero, suc, length, map, take, drop, refl, sym, subst, slice_get, nat_le, nat_lt, arith}
+use Rattle.std.proofs.Common.{◌≡◌, ℕ, ◌+◌, ◌-◌, ◌*◌, ◌/◌, ◌%◌, ◌<◌, ◌≤◌, ◌==◌, ◌&&◌, Bool, true, false, Some, List, [], ◌∷◌, zero, suc, length, map, take, drop, refl, sym, ◌∙◌, subst, slice_get, nat_le, nat_lt, arith}
 use Rattle.std.proofs.lemmas.Bool.{ltb-true}
 use Rattle.std.proofs.lemmas.Bool.Decides.{nat_tests}
 use Rattle.std.proofs.lemmas.List.{length-take-le, length-drop}
@@ -10,6 +10,8 @@ use Rattle.up_model.proofs.Bools.{and_left, and_right}
 use Rattle.up_model.specs.Reply.{is_piece}
 use Rattle.up_model.specs.declared.entry.Call.{Call}
 use Rattle.up_model.specs.declared.entry.Call.TheVariants as calls
+use Rattle.up_model.specs.declared.entry.Birth.{Birth}
+use Rattle.up_script.specs.Actions.{suits_mode}
 use Rattle.up_script.specs.Sound.{is_within, is_sound_call, is_sound_action, brings_nothing}
 use Rattle.up_script.specs.declared.script.Action.{Action}
 use Rattle.up_script.specs.declared.script.Action.TheVariants as actions
@@ -17,7 +19,7 @@ use Rattle.up_worker.specs.Acting.{is_plain}
 use Rattle.up_worker.specs.Calls.{bare, calls_in, read_of, write_of, vacate_of, fits_line}
 use Rattle.up_worker.specs.declared.course.Aim.{Aim}
 use Rattle.up_steps.specs.Told.{is_go}
-use Rattle.up_stage.specs.Calls.{is_fit_call, IsFitAim, is_played}
+use Rattle.up_stage.specs.Calls.{is_fit_call, is_numbered_birth, IsFitAim, is_played, suits_births}
 use Rattle.up_stage.proofs.Lives.{some_same}
 
 -- a piece of an access, within one page of it
@@ -76,17 +78,17 @@ piece_fits off len piece p =
     let last : piece.off / 4096 ≤ (off + len - 1) / 4096 = omega arith in
     three_true (nat_lt 0 piece.len) (nat_le (piece.off % 4096 + piece.len) 4096) (nat_le (piece.off / 4096) ((off + len - 1) / 4096)) (lt_is 0 piece.len some) (le_is _ _ page) (le_is _ _ last)
 
-fit_read : (n object off len : ℕ) → object < n → (k : ℕ) (aim : Aim) → slice_get (map (read_of object off len) (pieces off len)) k ≡ Some aim → IsFitAim n aim
+fit_read : (n : List Birth) (object off len : ℕ) → object < length n → (k : ℕ) (aim : Aim) → slice_get (map (read_of object off len) (pieces off len)) k ≡ Some aim → IsFitAim n aim
 fit_read n object off len on k aim is =
     let m = mapped (read_of object off len) (pieces off len) k aim is in
-    subst (λ (x : Aim). IsFitAim n x) m.made (record { on = on; fit = piece_fits off len m.x (piece_of off (off + len) (pieces off len) k m.x (all_joined off len) m.is) })
+    subst (λ (x : Aim). IsFitAim n x) m.made (record { on = on; fit = piece_fits off len m.x (piece_of off (off + len) (pieces off len) k m.x (all_joined off len) m.is); suits = refl })
 
 part_length : (bytes : List ℕ) (k n : ℕ) → k + n ≤ length bytes → length (take n (drop k bytes)) ≡ n
 part_length bytes k n fits =
     let many : length (drop k bytes) ≡ length bytes - k = length-drop k bytes in
     length-take-le n (drop k bytes) (omega arith)
 
-fit_write : (n object off : ℕ) (bytes : List ℕ) → object < n → (k : ℕ) (aim : Aim) → slice_get (map (write_of object off bytes) (pieces off (length bytes))) k ≡ Some aim → IsFitAim n aim
+fit_write : (n : List Birth) (object off : ℕ) (bytes : List ℕ) → object < length n → (k : ℕ) (aim : Aim) → slice_get (map (write_of object off bytes) (pieces off (length bytes))) k ≡ Some aim → IsFitAim n aim
 fit_write n object off bytes on k aim is =
     let m = mapped (write_of object off bytes) (pieces off (length bytes)) k aim is in
     let p = piece_of off (off + length bytes) (pieces off (length bytes)) k m.x (all_joined off (length bytes)) m.is in
@@ -94,6 +96,7 @@ fit_write n object off bytes on k aim is =
     subst (λ (x : Aim). IsFitAim n x) m.made (record {
       on = on;
       fit = subst (λ (c : ℕ). is_piece m.x.off c ((off + length bytes - 1) / 4096) ≡ true) (sym many) (piece_fits off (length bytes) m.x p);
+      suits = refl;
     })
 
 -- a sound call
@@ -115,24 +118,35 @@ fit_bare (calls.Borrow page brought) is = refl
 fit_bare (calls.Vacate brought) is = refl
 fit_bare _ is = refl
 
+suits_bare : (numbered : Bool) (call : Call) → suits_mode numbered (bare call) ≡ suits_mode numbered call
+suits_bare numbered (calls.Read piece last brought) = refl
+suits_bare numbered (calls.Write off bytes last brought) = refl
+suits_bare numbered (calls.Retry ticket brought) = refl
+suits_bare numbered (calls.Supply range bytes brought) = refl
+suits_bare numbered (calls.Dirty range brought) = refl
+suits_bare numbered (calls.Pin range brought) = refl
+suits_bare numbered (calls.Borrow page brought) = refl
+suits_bare numbered (calls.Vacate brought) = refl
+suits_bare numbered _ = refl
+
 one_call : (aim other : Aim) (k : ℕ) → slice_get (aim ∷ []) k ≡ Some other → aim ≡ other
 one_call aim other zero is = some_same aim other is
 one_call aim other (suc k) is = absurd cc
 
 -- the calls of a line on objects of which there are so many
-pub fit_calls : (n : ℕ) (objects : List ℕ) (action : Action) → ((place object : ℕ) → slice_get objects place ≡ Some object → object < n) → is_sound_action n action ≡ true → (k : ℕ) (aim : Aim)
+pub fit_calls : (n : List Birth) (objects : List ℕ) (action : Action) → ((place object : ℕ) → slice_get objects place ≡ Some object → object < length n) → is_sound_action (length n) action ≡ true → suits_births n action ≡ true → (k : ℕ) (aim : Aim)
     → slice_get (calls_in objects action) k ≡ Some aim → IsFitAim n aim
-fit_calls n objects (actions.Read object off len) bound sound k aim is =
-    fit_read n object off len (ltb-true object n (and_left _ _ (and_left _ _ sound))) k aim is
-fit_calls n objects (actions.Write object off bytes) bound sound k aim is =
-    fit_write n object off bytes (ltb-true object n (and_left _ _ (and_left _ _ sound))) k aim is
-fit_calls n objects (actions.Act object call) bound sound k aim is =
+fit_calls n objects (actions.Read object off len) bound sound suits k aim is =
+    fit_read n object off len (ltb-true object (length n) (and_left _ _ (and_left _ _ sound))) k aim is
+fit_calls n objects (actions.Write object off bytes) bound sound suits k aim is =
+    fit_write n object off bytes (ltb-true object (length n) (and_left _ _ (and_left _ _ sound))) k aim is
+fit_calls n objects (actions.Act object call) bound sound suits k aim is =
     subst (λ (x : Aim). IsFitAim n x) (one_call _ aim k is)
-    (record { on = ltb-true object n (and_left _ _ sound); fit = fit_bare call (and_right _ _ sound) })
-fit_calls n objects actions.Recall bound sound k aim is =
+    (record { on = ltb-true object (length n) (and_left _ _ sound); fit = fit_bare call (and_right _ _ sound); suits = suits_bare (is_numbered_birth (slice_get n object)) call ∙ suits })
+fit_calls n objects actions.Recall bound sound suits k aim is =
     let m = mapped vacate_of objects k aim is in
-    subst (λ (x : Aim). IsFitAim n x) m.made (record { on = bound k m.x m.is; fit = refl })
-fit_calls n objects _ bound sound k aim is = absurd cc
+    subst (λ (x : Aim). IsFitAim n x) m.made (record { on = bound k m.x m.is; fit = refl; suits = refl })
+fit_calls n objects _ bound sound suits k aim is = absurd cc
 
 -- what beginning a line asks for
 limit_fits : (object n off len : ℕ) → ((nat_lt object n && nat_le off 8796093022208) && is_within 1 65536 len) ≡ true → nat_le (off + len) 17592186044416 ≡ true

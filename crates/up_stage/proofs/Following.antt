@@ -6,9 +6,10 @@ use Rattle.up_model.specs.declared.entry.Call.{Call}
 use Rattle.up_model.specs.declared.entry.Call.TheVariants as calls
 use Rattle.up_model.specs.Reply.{proper}
 use Rattle.up_model.specs.Tickets.{owner, spent}
-use Rattle.up_stage.specs.Calls.{IsRightFor}
+use Rattle.up_stage.specs.Calls.{is_numbered_birth, suits_birth, IsRightFor}
 use Rattle.up_hands.specs.Handed.{Handed, lives_of, births_in, AllLegal}
 use Rattle.up_hands.specs.Carried.{CarriedOut, IsProper, AsksForSome, is_done_here, object_of}
+use Rattle.up_script.specs.Actions.{suits_mode}
 use Rattle.up_steps.specs.Steps.{Setting}
 use Rattle.up_steps.specs.World.{Happening, entries, said_by, rests}
 use Rattle.up_worker.specs.Acting.{Acting, next_wish, next_acting}
@@ -22,7 +23,7 @@ use Rattle.up_stage.specs.Staged.{Staged, SameShape}
 use Rattle.std.specs.Prelude.{IfSome}
 use Rattle.up_stage.specs.Ready.{asked, ActorKeeps, Makes, Pending, Ready, rank_at, rank}
 use Rattle.up_stage.specs.Worlds.{Stands, Goes, FollowsOn, OneMore}
-use Rattle.up_stage.proofs.Lives.{some_same, all_of, are_entered}
+use Rattle.up_stage.proofs.Lives.{some_same, births_many, birth_at, all_of, are_entered}
 use Rattle.up_stage.proofs.Pendings.{proper_call, proper_retry}
 use Rattle.up_stage.proofs.Readying.{Further, ready_more, AsksFew, acts_within}
 use Rattle.up_stage.proofs.Standing.{out_own, stands_heard, parking, goes_more, goes_rest}
@@ -37,7 +38,7 @@ pub record Following (old now : Staged) (who : ℕ) (first wish : Wish) : Type 0
 pub following_begin : (old : Staged) (who : ℕ) (first : Wish) → Ready old who first → Following old old who first first
 following_begin old who first ready = record {
   ready = ready;
-  shape = record { lives = refl; actors = refl };
+  shape = record { births = refl; actors = refl };
   done = refl;
   went = λ births s world st said. record { more = []; stands = st; goes = tt; answers = tt; said = said };
 }
@@ -46,7 +47,7 @@ pub following_more : (old now new : Staged) (who : ℕ) (first wish next : Wish)
     → Following old new who first next
 following_more old now new who first wish next f goes ready shape done one = record {
   ready = ready;
-  shape = record { lives = shape.lives ∙ f.shape.lives; actors = shape.actors ∙ f.shape.actors };
+  shape = record { births = shape.births ∙ f.shape.births; actors = shape.actors ∙ f.shape.actors };
   done = done ∙ f.done;
   went = λ births s world st said. goes_more births s who world now new wish next goes one (f.went births s world st said);
 }
@@ -60,19 +61,24 @@ done_here a (wishes.Site object step) p is = absurd p
 done_here a wishes.LineEnd p is = absurd cc
 done_here a _ p is = refl
 
+-- the mode of the object on which a call is
+suits_here : (lives : List Life) (object on : ℕ) (life : Life) (call : Call) → object ≡ on → slice_get lives object ≡ Some life → suits_birth (births_in lives) on call ≡ true → suits_mode life.birth.numbered call ≡ true
+suits_here lives object on life call same is suits =
+    ap (λ (o : Option Birth). suits_mode (is_numbered_birth o) call) (sym (ap (slice_get (births_in lives)) (sym same) ∙ birth_at lives object life is)) ∙ suits
+
 proper_made : (lives : List Life) (who : ℕ) (a : Acting) (life : Life) (object : ℕ) (call : Call) → ActorKeeps lives who a → Makes a object call → slice_get lives object ≡ Some life → (ticket : Option ℕ) → a.ticket ≡ ticket
-    → proper life.journal who call ≡ true
+    → proper life.birth life.journal who call ≡ true
 proper_made lives who a life object call k p is None free =
     let fit = k.calls a.settled p.aim p.is in
     let made : call ≡ bringing p.brought p.aim.call = p.made ∙ ap (λ (t : Option ℕ). bringing p.brought (attempt t p.aim.call)) free in
-    ap (λ (c : Call). proper life.journal who c) made
-    ∙ proper_call life.journal who p.aim.call p.brought fit.fit p.counts (subst (λ (t : Option ℕ). IsRightFor t p.aim.call p.brought) free p.right)
+    ap (λ (c : Call). proper life.birth life.journal who c) made
+    ∙ proper_call life.birth life.journal who p.aim.call p.brought fit.fit (suits_here lives object p.aim.object life p.aim.call p.on is fit.suits) p.counts (subst (λ (t : Option ℕ). IsRightFor t p.aim.call p.brought) free p.right)
 proper_made lives who a life object call k p is (Some t) waits =
     let w = (k.holds t p.aim waits p.is).holds in
     let same : w.life ≡ life = some_same w.life life (sym w.is ∙ ap (slice_get lives) (sym p.on) ∙ is) in
     let made : call ≡ calls.Retry t p.brought = p.made ∙ ap (λ (o : Option ℕ). bringing p.brought (attempt o p.aim.call)) waits in
-    ap (λ (c : Call). proper life.journal who c) made
-    ∙ proper_retry life.journal who t p.brought (ap (λ (l : Life). owner l.journal t) (sym same) ∙ w.holder ∙ ap (λ (n : ℕ). Some n) k.number)
+    ap (λ (c : Call). proper life.birth life.journal who c) made
+    ∙ proper_retry life.birth life.journal who t p.brought (ap (λ (l : Life). owner l.journal t) (sym same) ∙ w.holder ∙ ap (λ (n : ℕ). Some n) k.number)
     (ap (λ (l : Life). spent l.journal t) (sym same) ∙ w.unspent) p.counts
 
 pub is_proper : (lives : List Life) (who : ℕ) (a : Acting) (wish : Wish) → ActorKeeps lives who a → Pending a wish → IsProper lives who wish
@@ -87,11 +93,11 @@ pub on_object : (lives : List Life) (who : ℕ) (a : Acting) (wish : Wish) (obje
 on_object lives who a (wishes.Act on call) object k p is =
     let same : on ≡ object = some_same on object is in
     let fit = (k.calls a.settled p.aim p.is).on in
-    let at = p.on in omega arith
+    let at = p.on in let many = births_many lives in omega arith
 on_object lives who a (wishes.Resize on pages) object k p is =
     let same : on ≡ object = some_same on object is in
     let fit = (k.calls a.settled p.aim p.is).on in
-    let at = p.on in omega arith
+    let at = p.on in let many = births_many lives in omega arith
 on_object lives who a _ object k p is = absurd cc
 
 -- what is heard is an answer to the wish

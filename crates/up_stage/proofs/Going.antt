@@ -46,7 +46,7 @@ pub did_nothing : (lines : List Line) (at : ℕ) (line : Line) (old : Staged) (a
     → (is_go line.action ≡ false → is_waiting old line.actor ≡ true) → Does lines at old old
 did_nothing lines at line old a rest is there free waits = record {
   rest = rest;
-  shape = record { lives = refl; actors = refl };
+  shape = record { births = refl; actors = refl };
   went = λ births s world st p.
       let same : is_waiting old line.actor ≡ is_parked s line.actor world = parked_is births s world old line.actor a st there in
       record {
@@ -156,7 +156,7 @@ pub did_resume : (lines : List Line) (at : ℕ) (line : Line) (old mid new : Sta
     → is_waiting old line.actor ≡ true → SameShape old mid → mid.done ≡ old.done → ResumesOn old mid line.actor → CatchesUp lines line.actor at mid new → Does lines at old new
 did_resume lines at line old mid new a is there each go waits shape done resumes c = record {
   rest = c.rest;
-  shape = record { lives = c.shape.lives ∙ shape.lives; actors = c.shape.actors ∙ shape.actors };
+  shape = record { births = c.shape.births ∙ shape.births; actors = c.shape.actors ∙ shape.actors };
   went = λ births s world st p.
       let who = line.actor in
       let event : Event = Hears heard.Done [] in
@@ -221,14 +221,14 @@ list_at test (y ∷ ys) (suc k) x all is = list_at test ys k x (and_right (test 
 pub gone_begin : (lines : List Line) (old : Staged) → AtRest old → GoesThrough lines 0 old old
 gone_begin lines old rest = record {
   rest = rest;
-  shape = record { lives = refl; actors = refl };
+  shape = record { births = refl; actors = refl };
   went = λ births s own st p. record { world = []; stands = st; ran = refl; paced = p };
 }
 
 pub gone_more : (lines : List Line) (at : ℕ) (old now new : Staged) → GoesThrough lines at old now → Does lines at now new → GoesThrough lines (at + 1) old new
 gone_more lines at old now new g d = record {
   rest = d.rest;
-  shape = record { lives = d.shape.lives ∙ g.shape.lives; actors = d.shape.actors ∙ g.shape.actors };
+  shape = record { births = d.shape.births ∙ g.shape.births; actors = d.shape.actors ∙ g.shape.actors };
   went = λ births s own st p.
       let before = g.went births s own st p in
       let one = d.went births s before.world before.stands before.paced in

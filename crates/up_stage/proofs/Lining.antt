@@ -181,7 +181,7 @@ pub catching_more : (lines : List Line) (who at : ℕ) (old now new : Staged) (l
     → is_waiting now who ≡ false → who < length now.done → AtRest new → SameShape now new → new.done ≡ slice_set now.done who (at + 1) → PassesOn now new who line → CatchingUp lines who (at + 1) old new
 catching_more lines who at old now new line a c is there free within rest shape done pass = record {
   rest = rest;
-  shape = record { lives = shape.lives ∙ c.shape.lives; actors = shape.actors ∙ c.shape.actors };
+  shape = record { births = shape.births ∙ c.shape.births; actors = shape.actors ∙ c.shape.actors };
   done = record {
     count = ap length done ∙ length-set now.done who (at + 1) ∙ c.done.count;
     others = λ v apart. ap (λ (xs : List ℕ). slice_index xs v) done ∙ index_other now.done who (at + 1) v apart ∙ c.done.others v apart;
@@ -193,7 +193,7 @@ catching_more lines who at old now new line a c is there free within rest shape 
 pub catching_begin : (lines : List Line) (who at : ℕ) (old : Staged) → AtRest old → at ≡ slice_index old.done who → CatchingUp lines who at old old
 catching_begin lines who at old rest is = record {
   rest = rest;
-  shape = record { lives = refl; actors = refl };
+  shape = record { births = refl; actors = refl };
   done = record { count = refl; others = λ v apart. refl };
   place = sym is;
   went = λ births s world st pace. record { more = []; stands = st; goes = tt; pace = rw is pace };

@@ -72,6 +72,20 @@ pub life_at : (births : List Birth) (g : List Entered) (object : ℕ) (birth : B
 life_at births g object birth is =
     at_from 0 births g object birth is ∙ (let e : 0 + object ≡ object = omega arith in ap (λ k. Some (record { birth = birth; journal = of_object k g })) e)
 
+pub births_are : (n : ℕ) (births : List Birth) (g : List Entered) → births_in (lives_from n births g) ≡ births
+births_are n [] g = refl
+births_are n (b ∷ bs) g = ap (λ (more : List Birth). b ∷ more) (births_are (n + 1) bs g)
+
+-- there are as many births as objects, each at its object's place
+pub births_many : (lives : List Life) → length (births_in lives) ≡ length lives
+births_many [] = refl
+births_many (life ∷ lives) = ap suc (births_many lives)
+
+pub birth_at : (lives : List Life) (k : ℕ) (life : Life) → slice_get lives k ≡ Some life → slice_get (births_in lives) k ≡ Some life.birth
+birth_at [] k life is = absurd cc
+birth_at (l ∷ lives) zero life is = ap (λ (x : Life). Some x.birth) (some_same l life is)
+birth_at (l ∷ lives) (suc k) life is = birth_at lives k life is
+
 pub lives_count : (n : ℕ) (births : List Birth) (g : List Entered) → length (lives_from n births g) ≡ length births
 lives_count n [] g = refl
 lives_count n (b ∷ bs) g = let rest = lives_count (n + 1) bs g in omega arith

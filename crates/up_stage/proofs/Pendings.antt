@@ -1,9 +1,10 @@
 -- What an actor wishes next keeps what its wish has to keep.
-use Rattle.std.proofs.Common.{◌≡◌, ℕ, ◌*◌, ◌<◌, ◌==◌, ◌&&◌, ◌⊎◌, Bool, true, false, cond, Option, Some, None, List, length, refl, sym, ap, subst, inl, inr, nat_lt, arith}
+use Rattle.std.proofs.Common.{◌≡◌, ℕ, ◌*◌, ◌<◌, ◌==◌, ◌&&◌, ◌⊎◌, Bool, true, false, cond, not, is_some, Option, Some, None, List, length, refl, sym, ap, subst, inl, inr, nat_lt, arith}
 use Rattle.std.proofs.lemmas.Bool.Decides.{nat_tests}
 use Rattle.up_model.proofs.Bools.{nat_eq_true, nat_eq-same}
-use Rattle.up_model.specs.Reply.{proper, counts_frames, brings}
+use Rattle.up_model.specs.Reply.{same_flag, proper, counts_frames, brings}
 use Rattle.up_model.specs.Tickets.{owner, spent}
+use Rattle.up_model.specs.declared.entry.Birth.{Birth}
 use Rattle.up_model.specs.declared.entry.Brought.{Brought}
 use Rattle.up_model.specs.declared.entry.Brought.TheVariants.{Nothing, Frames, Scanned}
 use Rattle.up_model.specs.declared.entry.Call.{Call}
@@ -12,6 +13,7 @@ use Rattle.up_model.specs.declared.entry.Entry.{Entry}
 use Rattle.up_core.specs.Requests.{brought_in, takes_frames}
 use Rattle.up_hands.specs.Handed.{empty_hand}
 use Rattle.up_hands.specs.Carried.{brings_as, hand_for}
+use Rattle.up_script.specs.Actions.{suits_mode}
 use Rattle.up_script.specs.declared.script.Action.{Action}
 use Rattle.up_script.specs.declared.script.Action.TheVariants as actions
 use Rattle.up_worker.specs.Acting.{Acting, under_way}
@@ -101,20 +103,26 @@ both_true true true p q = refl
 both_true true false p q = absurd cc
 both_true false b p q = absurd cc
 
-pub proper_call : (h : List Entry) (who : ℕ) (call : Call) (b : Brought) → is_fit_call call ≡ true → counts_frames b ≡ true → IsRightFor None call b → proper h who (bringing b call) ≡ true
-proper_call h who (calls.Read piece last old) b fit counts right = both_true _ _ fit counts
-proper_call h who (calls.Write off bytes last old) b fit counts right = both_true _ _ fit counts
-proper_call h who (calls.Retry ticket old) b fit counts right = absurd cc
-proper_call h who (calls.Supply range bytes old) b fit counts right =
-    supply_proper (length bytes == 4096 * range.count) (nat_lt 0 range.count) (brings range.count b) (counts_frames b) fit (right_for_supply _ range.count b fit right) counts
-proper_call h who (calls.Dirty range old) b fit counts right = counts
-proper_call h who (calls.Pin range old) b fit counts right = counts
-proper_call h who (calls.Borrow page old) b fit counts right = counts
-proper_call h who (calls.Vacate old) b fit counts right = counts
-proper_call h who _ b fit counts right = refl
+-- an end with a number exactly where its object is numbered is proper
+end_proper : (numbered some : Bool) → cond numbered some (not some) ≡ true → same_flag numbered some ≡ true
+end_proper true some e = e
+end_proper false some e = e
 
-pub proper_retry : (h : List Entry) (who t : ℕ) (b : Brought) → owner h t ≡ Some who → spent h t ≡ false → counts_frames b ≡ true → proper h who (calls.Retry t b) ≡ true
-proper_retry h who t b holder unspent counts = rw (holder, unspent, nat_eq-same who) counts
+pub proper_call : (birth : Birth) (h : List Entry) (who : ℕ) (call : Call) (b : Brought) → is_fit_call call ≡ true → suits_mode birth.numbered call ≡ true → counts_frames b ≡ true → IsRightFor None call b → proper birth h who (bringing b call) ≡ true
+proper_call birth h who (calls.Read piece last old) b fit suits counts right = both_true _ _ fit counts
+proper_call birth h who (calls.Write off bytes last old) b fit suits counts right = both_true _ _ fit counts
+proper_call birth h who (calls.Retry ticket old) b fit suits counts right = absurd cc
+proper_call birth h who (calls.Supply range bytes old) b fit suits counts right =
+    supply_proper (length bytes == 4096 * range.count) (nat_lt 0 range.count) (brings range.count b) (counts_frames b) fit (right_for_supply _ range.count b fit right) counts
+proper_call birth h who (calls.Dirty range old) b fit suits counts right = counts
+proper_call birth h who (calls.Pin range old) b fit suits counts right = counts
+proper_call birth h who (calls.Borrow page old) b fit suits counts right = counts
+proper_call birth h who (calls.Vacate old) b fit suits counts right = counts
+proper_call birth h who (calls.End range of) b fit suits counts right = end_proper birth.numbered (is_some of) suits
+proper_call birth h who _ b fit suits counts right = refl
+
+pub proper_retry : (birth : Birth) (h : List Entry) (who t : ℕ) (b : Brought) → owner h t ≡ Some who → spent h t ≡ false → counts_frames b ≡ true → proper birth h who (calls.Retry t b) ≡ true
+proper_retry birth h who t b holder unspent counts = rw (holder, unspent, nat_eq-same who) counts
 
 -- the wish to make the call under way
 resize_or : (a : Acting) (aim : Aim) (b : Brought) (made : Call) → under_way a ≡ Some aim → counts_frames b ≡ true → IsRightFor a.ticket aim.call b

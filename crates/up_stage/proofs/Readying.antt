@@ -14,7 +14,7 @@ use Rattle.up_model.specs.declared.entry.Call.{Call}
 use Rattle.up_model.specs.declared.entry.Call.TheVariants as calls
 use Rattle.up_model.specs.declared.entry.Reply.{Reply}
 use Rattle.up_model.specs.declared.entry.Reply.TheVariants as replies
-use Rattle.up_hands.specs.Handed.{Handed, lives_of, AllLegal}
+use Rattle.up_hands.specs.Handed.{Handed, lives_of, births_in, AllLegal}
 use Rattle.up_hands.specs.Carried.{CarriedOut}
 use Rattle.up_steps.specs.Asked.{parks as parks_reply, may_park}
 use Rattle.up_steps.specs.World.{rests}
@@ -28,10 +28,10 @@ use Rattle.up_worker.specs.declared.wish.Heard.{Heard}
 use Rattle.up_worker.specs.declared.wish.Heard.TheVariants as heard
 use Rattle.up_worker.specs.declared.wish.Wish.{Wish}
 use Rattle.up_worker.specs.declared.wish.Wish.TheVariants as wishes
-use Rattle.up_stage.specs.Calls.{is_fit_call}
+use Rattle.up_stage.specs.Calls.{is_fit_call, IsFitAim}
 use Rattle.up_stage.specs.Staged.{Staged}
 use Rattle.up_stage.specs.Ready.{HoldsOn, Waits, HoldsIts, ActorKeeps, Makes, Pending, Ready, rank}
-use Rattle.up_stage.proofs.Lives.{some_same, slice_get-set, get_some, life_at, legal_at, lives_count}
+use Rattle.up_stage.proofs.Lives.{some_same, slice_get-set, get_some, life_at, legal_at, births_are, lives_count}
 use Rattle.up_stage.proofs.Replying.{asks_right, parks_right}
 use Rattle.up_stage.proofs.Stepping.{After, after_act, after_site, after_gather, after_loan, after_done}
 use Rattle.up_stage.proofs.Tickets.{AllKeepIt, held_one, held_many, held_blocked, evicts_keep, others_keep}
@@ -196,10 +196,11 @@ carried births made g a (wishes.Site object step) answer home loans levels objec
 keeps_actor : (births : List Birth) (made g : List Entered) (who : ℕ) (a new : Acting) → ActorKeeps (lives_of births g) who a → new.who ≡ a.who → new.kind ≡ a.kind → new.objects ≡ a.objects → new.doing ≡ a.doing
     → HoldsIts (lives_of births (made ++ g)) new → ActorKeeps (lives_of births (made ++ g)) who new
 keeps_actor births made g who a new k number kind objects doing holds =
+    let same : births_in (lives_of births g) ≡ births_in (lives_of births (made ++ g)) = births_are 0 births g ∙ sym (births_are 0 births (made ++ g)) in
     let count : length (lives_of births (made ++ g)) ≡ length (lives_of births g) = lives_count 0 births (made ++ g) ∙ sym (lives_count 0 births g) in
     record {
       number = number ∙ k.number;
-      calls = λ place aim is. let fit = k.calls place aim (rw kind at rw objects at rw doing at is) in record { on = rw count fit.on; fit = fit.fit };
+      calls = λ place aim is. subst (λ (bs : List Birth). IsFitAim bs aim) same (k.calls place aim (rw kind at rw objects at rw doing at is));
       objects = λ place object is. rw count (k.objects place object (rw objects at is));
       holds = holds;
     }
@@ -228,7 +229,7 @@ next_doing a _ = refl
 pub acts_within : (births : List Birth) (g : List Entered) (who : ℕ) (a : Acting) (object : ℕ) (call : Call) → ActorKeeps (lives_of births g) who a → Makes a object call → object < length births
 acts_within births g who a object call k p =
     let below = (k.calls a.settled p.aim p.is).on in
-    let count = lives_count 0 births g in
+    let count : length (births_in (lives_of births g)) ≡ length births = ap length (births_are 0 births g) in
     let on = p.on in omega arith
 
 -- what comes of one wish

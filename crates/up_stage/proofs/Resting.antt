@@ -5,7 +5,7 @@ use Rattle.std.proofs.lemmas.Option.{slice_get_within}
 use Rattle.up_model.proofs.Bools.{nat_eq-same, nat_eq_true}
 use Rattle.up_model.specs.declared.entry.Birth.{Birth}
 use Rattle.up_model.specs.declared.entry.Brought.TheVariants.{Nothing}
-use Rattle.up_hands.specs.Handed.{Handed, empty_hand}
+use Rattle.up_hands.specs.Handed.{Handed, births_in, empty_hand}
 use Rattle.up_hands.specs.Carried.{hand_for}
 use Rattle.up_script.specs.Sound.{is_sound_action}
 use Rattle.up_script.specs.declared.script.Action.{Action}
@@ -21,12 +21,12 @@ use Rattle.up_worker.specs.declared.wish.Heard.TheVariants as heard
 use Rattle.up_worker.specs.declared.wish.Wanted.TheVariants as wanted
 use Rattle.up_worker.specs.declared.wish.Wish.{Wish}
 use Rattle.up_worker.specs.declared.wish.Wish.TheVariants as wishes
-use Rattle.up_stage.specs.Calls.{IsRightFor}
+use Rattle.up_stage.specs.Calls.{suits_births, IsRightFor}
 use Rattle.up_stage.specs.Staged.{Staged}
 use Rattle.up_stage.specs.Ready.{ActorKeeps, Keeps, Parks, Pending, Rests, AtRest, Ready, is_done_wanted, waits_for_go, is_waiting}
 use Rattle.up_stage.specs.Worlds.{Stands, StandsAtRest, FollowsOn, ActsOn, ResumesOn}
 use Rattle.up_stage.proofs.Fitting.{fit_calls}
-use Rattle.up_stage.proofs.Lives.{some_same, slice_get-set}
+use Rattle.up_stage.proofs.Lives.{some_same, slice_get-set, births_many}
 use Rattle.up_stage.proofs.Pendings.{pending_makes, pending_begins}
 use Rattle.up_stage.proofs.Standing.{wants_said, out_own, stands_begun, stands_woken}
 use Rattle.up_stage.proofs.Stepping.{hand_begins}
@@ -74,16 +74,17 @@ others_set old mid who new actors within rest v a apart at =
     rest v a (rw apart at (sym (slice_get-set old.actors who new v within) ∙ ap (λ (xs : List Acting). slice_get xs v) (sym actors) ∙ at))
 
 -- a line is begun
-pub begin_ready : (old mid : Staged) (who : ℕ) (a : Acting) (action : Action) → AtRest old → slice_get old.actors who ≡ Some a → is_sound_action (length old.hands.lives) action ≡ true → mid.hands ≡ old.hands
+pub begin_ready : (old mid : Staged) (who : ℕ) (a : Acting) (action : Action) → AtRest old → slice_get old.actors who ≡ Some a → is_sound_action (length (births_in old.hands.lives)) action ≡ true → suits_births (births_in old.hands.lives) action ≡ true → mid.hands ≡ old.hands
     → mid.actors ≡ slice_set old.actors who (started a (OneLine action)) → length mid.done ≡ length old.done → Ready mid who (first_wish a (OneLine action))
-begin_ready old mid who a action r is sound hands actors done =
+begin_ready old mid who a action r is sound suits hands actors done =
     let new = started a (OneLine action) in
     let within : who < length old.actors = slice_get_within old.actors who a is in
     let k = r.keeps.each who a is in
+    let births = births_in old.hands.lives in
     record {
       keeps = keeps_set old mid who new r.keeps hands actors done within (record {
         number = k.number;
-        calls = λ place aim at. fit_calls (length old.hands.lives) a.objects action k.objects sound place aim at;
+        calls = λ place aim at. fit_calls births a.objects action (λ k_place object there. rw (births_many old.hands.lives) (k.objects k_place object there)) sound suits place aim at;
         objects = k.objects;
         holds = λ t aim held at. absurd cc;
       });

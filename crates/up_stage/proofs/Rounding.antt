@@ -12,7 +12,8 @@ use Rattle.up_script.specs.declared.script.Line.{Line}
 use Rattle.up_script.specs.declared.script.ObjectLine.{ObjectLine}
 use Rattle.up_script.specs.declared.script.Script.{Script}
 use Rattle.up_stage.specs.Played.{IsPlayable, is_played_line}
-use Rattle.up_stage.specs.Rounds.{number_at, OwnAction, page_in, byte_at, supplies, accesses, writes_back, round_of, rounds, numbered, generated, generated_object, generated_user, generated_pager}
+use Rattle.up_stage.specs.Calls.{suits_births}
+use Rattle.up_stage.specs.Rounds.{number_at, OwnAction, page_in, byte_at, supplies, accesses, writes_back, round_of, rounds, numbered, generated, generated_birth, generated_object, generated_user, generated_pager}
 
 abbrev line_of : ℕ → OwnAction → Line
 line_of n own = record { number = n; actor = own.actor; action = own.action }
@@ -123,7 +124,7 @@ abbrev actors : List ActorLine
 actors = generated_user ∷ generated_pager ∷ []
 
 abbrev is_good : OwnAction → Bool
-is_good own = is_sound_line 1 2 (line_of 0 own) && is_played_line actors (line_of 0 own)
+is_good own = is_sound_line 1 2 (line_of 0 own) && is_played_line actors (line_of 0 own) && suits_births (generated_birth ∷ []) own.action
 
 both : (a b : Bool) → a ≡ true → b ≡ true → (a && b) ≡ true
 both true b p q = q
@@ -165,11 +166,15 @@ good_rounds seed (suc count) = good_append (rounds seed count) _ (good_rounds se
 
 sound_numbered : (n : ℕ) (xs : List OwnAction) → list_all is_good xs ≡ true → list_all (is_sound_line 1 2) (numbered n xs) ≡ true
 sound_numbered n [] good = refl
-sound_numbered n (x ∷ xs) good = both _ _ (and_left _ _ (and_left (is_good x) _ good)) (sound_numbered (n + 1) xs (and_right (is_good x) _ good))
+sound_numbered n (x ∷ xs) good = both _ _ (and_left _ _ (and_left _ _ (and_left (is_good x) _ good))) (sound_numbered (n + 1) xs (and_right (is_good x) _ good))
 
 played_numbered : (n : ℕ) (xs : List OwnAction) → list_all is_good xs ≡ true → list_all (is_played_line actors) (numbered n xs) ≡ true
 played_numbered n [] good = refl
-played_numbered n (x ∷ xs) good = both _ _ (and_right (is_sound_line 1 2 (line_of 0 x)) _ (and_left (is_good x) _ good)) (played_numbered (n + 1) xs (and_right (is_good x) _ good))
+played_numbered n (x ∷ xs) good = both _ _ (and_right (is_sound_line 1 2 (line_of 0 x)) _ (and_left _ _ (and_left (is_good x) _ good))) (played_numbered (n + 1) xs (and_right (is_good x) _ good))
+
+suiting_numbered : (n : ℕ) (xs : List OwnAction) → list_all is_good xs ≡ true → list_all (λ (line : Line). suits_births (generated_birth ∷ []) line.action) (numbered n xs) ≡ true
+suiting_numbered n [] good = refl
+suiting_numbered n (x ∷ xs) good = both _ _ (and_right (is_sound_line 1 2 (line_of 0 x) && is_played_line actors (line_of 0 x)) _ (and_left (is_good x) _ good)) (suiting_numbered (n + 1) xs (and_right (is_good x) _ good))
 
 pub generated_playable : (seed count : ℕ) → IsPlayable (generated seed count)
 generated_playable seed count = record {
@@ -177,11 +182,13 @@ generated_playable seed count = record {
   frames = refl;
   actors = refl;
   lines = played_numbered 7 (rounds seed count) (good_rounds seed count);
+  modes = suiting_numbered 7 (rounds seed count) (good_rounds seed count);
 }
 
 -- what a script is that has these
 abbrev script_with : List ObjectLine → List ActorLine → List Line → Script
 script_with objects actors lines = record {
+  version = 1;
   frames = 64;
   frames_line = 2;
   loan = 0;

@@ -29,10 +29,10 @@ by_some None who p = absurd cc
 by_some (Some holder) who p = ap (λ (n : ℕ). Some n) (nat_eq_true holder who p)
 
 -- a proper retry is of a ticket that its actor holds
-retry_holder : (h : List Entry) (who : ℕ) (call : Call) (t : ℕ) → proper h who call ≡ true → retries call t ≡ true → owner h t ≡ Some who
-retry_holder h who (Retry ticket brought) t p r =
+retry_holder : (birth : Birth) (h : List Entry) (who : ℕ) (call : Call) (t : ℕ) → proper birth h who call ≡ true → retries call t ≡ true → owner h t ≡ Some who
+retry_holder birth h who (Retry ticket brought) t p r =
     subst (λ (n : ℕ). owner h n ≡ Some who) (nat_eq_true ticket t r) (by_some (owner h ticket) who (and_left _ _ p))
-retry_holder h who _ t p r = absurd cc
+retry_holder birth h who _ t p r = absurd cc
 
 -- a retry by this actor keeps the ticket
 abbrev pub KeepsIt : ℕ → ℕ → Entry → Type 0
@@ -54,7 +54,7 @@ holds_entry birth e before legal who t keeps h = (
     | false ↦ λ q. h.0
   ] refl,
   spends_not (retries e.call t) (keeps_ticket e.reply) (spent before t)
-      (λ r. let both : Some e.who ≡ Some who = sym (retry_holder before e.who e.call t legal.1 r) ∙ h.0 in keeps (some_same e.who who both) r) h.1,
+      (λ r. let both : Some e.who ≡ Some who = sym (retry_holder birth before e.who e.call t legal.1 r) ∙ h.0 in keeps (some_same e.who who both) r) h.1,
 )
 
 -- on an object after one entry more

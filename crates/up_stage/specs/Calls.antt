@@ -1,9 +1,11 @@
 -- The calls of a script's lines, each as it is owed whatever stands in the journals.
-use Rattle.std.specs.Prelude.{◌≡◌, ℕ, ◌*◌, ◌<◌, ◌==◌, ◌&&◌, ◌⊎◌, Bool, true, false, Option, Some, None, length, nat_lt, slice_get}
+use Rattle.std.specs.Prelude.{◌≡◌, ℕ, ◌*◌, ◌<◌, ◌==◌, ◌&&◌, ◌⊎◌, Bool, true, false, Option, Some, None, List, length, nat_lt, slice_get}
 use Rattle.up_model.specs.Reply.{is_piece, brings}
+use Rattle.up_model.specs.declared.entry.Birth.{Birth}
 use Rattle.up_model.specs.declared.entry.Brought.{Brought}
 use Rattle.up_model.specs.declared.entry.Call.{Call}
 use Rattle.up_model.specs.declared.entry.Call.TheVariants as calls
+use Rattle.up_script.specs.Actions.{suits_mode}
 use Rattle.up_script.specs.declared.script.Action.{Action}
 use Rattle.up_script.specs.declared.script.Action.TheVariants as actions
 use Rattle.up_worker.specs.Acting.{Acting}
@@ -18,13 +20,23 @@ is_fit_call (calls.Supply range bytes brought) = (length bytes == 4096 * range.c
 is_fit_call (calls.Retry ticket brought) = false
 is_fit_call _ = true
 
--- on one of so many objects
-pub record IsFitAim (objects : ℕ) (aim : Aim) : Type 0 where
-  pub on : aim.object < objects
-  pub fit : is_fit_call aim.call ≡ true
+-- the object is born numbered
+abbrev pub is_numbered_birth : Option Birth → Bool
+is_numbered_birth None = false
+is_numbered_birth (Some birth) = birth.numbered
 
-abbrev pub AreFitCalls : ℕ → Acting → Type 0
-AreFitCalls objects a = (place : ℕ) (aim : Aim) → slice_get (calls_of a.kind a.objects a.doing) place ≡ Some aim → IsFitAim objects aim
+-- an end has a number exactly where its object is born numbered
+abbrev pub suits_birth : List Birth → ℕ → Call → Bool
+suits_birth births object call = suits_mode (is_numbered_birth (slice_get births object)) call
+
+-- on one of the objects with these births
+pub record IsFitAim (births : List Birth) (aim : Aim) : Type 0 where
+  pub on : aim.object < length births
+  pub fit : is_fit_call aim.call ≡ true
+  pub suits : suits_birth births aim.object aim.call ≡ true
+
+abbrev pub AreFitCalls : List Birth → Acting → Type 0
+AreFitCalls births a = (place : ℕ) (aim : Aim) → slice_get (calls_of a.kind a.objects a.doing) place ≡ Some aim → IsFitAim births aim
 
 -- what is brought is what the call takes: a supply takes a frame for each page, or a scan; what waits under a ticket is no supply
 abbrev pub IsRightFor : Option ℕ → Call → Brought → Type 0
@@ -36,3 +48,8 @@ abbrev pub is_played : Action → Bool
 is_played (actions.Sync object) = false
 is_played (actions.Turn object steps) = false
 is_played _ = true
+
+-- the line's end, where it is one, is as its object's birth asks
+abbrev pub suits_births : List Birth → Action → Bool
+suits_births births (actions.Act object call) = suits_birth births object call
+suits_births births _ = true

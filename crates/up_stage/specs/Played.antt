@@ -14,7 +14,7 @@ use Rattle.up_script.specs.declared.script.Script.{Script}
 use Rattle.up_hands.specs.Handed.{lives_of, home, loans, new_life, ends_of, empty_hand, AllLegal}
 use Rattle.up_worker.specs.Lives.{Entered}
 use Rattle.up_steps.specs.Steps.{Setting, Moment, Steps}
-use Rattle.up_stage.specs.Calls.{is_played}
+use Rattle.up_stage.specs.Calls.{is_played, suits_births}
 use Rattle.up_stage.specs.Staged.{Staged, unborn_from}
 
 abbrev pub births_of : List ObjectLine → List Birth
@@ -55,13 +55,14 @@ pub record IsPlayable (script : Script) : Type 0 where
   pub frames : are_fit_frames script.frames script.loan script.warn script.critical ≡ true
   pub actors : list_all (is_bound_to (length script.objects)) script.actors ≡ true
   pub lines : list_all (is_played_line script.actors) script.lines ≡ true
+  pub modes : list_all (λ line. suits_births (births_of script.objects) line.action) script.lines ≡ true
 
--- a line of one of so many actors on one of so many objects, that is played
-abbrev pub is_able_line : ℕ → ℕ → Line → Bool
-is_able_line objects actors line = is_sound_line objects actors line && is_played line.action
+-- a line of one of so many actors on an object with one of these births, that is played
+abbrev pub is_able_line : List Birth → ℕ → Line → Bool
+is_able_line births actors line = is_sound_line (length births) actors line && is_played line.action && suits_births births line.action
 
-abbrev pub are_able : ℕ → ℕ → List Line → Bool
-are_able objects actors lines = list_all (is_able_line objects actors) lines
+abbrev pub are_able : List Birth → ℕ → List Line → Bool
+are_able births actors lines = list_all (is_able_line births actors) lines
 
 -- all objects and actors before the first line
 abbrev pub IsNew : Script → Staged → Type 0

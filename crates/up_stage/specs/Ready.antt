@@ -9,7 +9,7 @@ use Rattle.up_model.specs.declared.entry.Call.{Call}
 use Rattle.up_model.specs.declared.entry.Reply.{Reply}
 use Rattle.up_model.specs.declared.entry.Reply.TheVariants.{Needs}
 use Rattle.up_core.specs.Requests.{brought_in, takes_frames}
-use Rattle.up_hands.specs.Handed.{AllLegal, empty_hand}
+use Rattle.up_hands.specs.Handed.{births_in, AllLegal, empty_hand}
 use Rattle.up_hands.specs.Carried.{hand_for}
 use Rattle.up_worker.specs.Acting.{Acting, under_way}
 use Rattle.up_worker.specs.Calls.{bringing, borrows, calls_of}
@@ -41,7 +41,7 @@ HoldsIts lives a = (ticket : ℕ) (aim : Aim) → a.ticket ≡ Some ticket → u
 
 pub record ActorKeeps (lives : List Life) (who : ℕ) (a : Acting) : Type 0 where
   pub number : a.who ≡ who
-  pub calls : AreFitCalls (length lives) a
+  pub calls : AreFitCalls (births_in lives) a
   pub objects : (place object : ℕ) → slice_get a.objects place ≡ Some object → object < length lives
   pub holds : HoldsIts lives a
 

@@ -51,7 +51,7 @@ abbrev pub all_pages : Span
 all_pages = record { first = 0; count = 256 }
 
 abbrev pub writes_back : List OwnAction
-writes_back = by_pager (calls.Begin all_pages false) ∷ by_pager (calls.End all_pages) ∷ []
+writes_back = by_pager (calls.Begin all_pages false) ∷ by_pager (calls.End all_pages None) ∷ []
 
 abbrev pub round_of : ℕ → ℕ → List OwnAction
 round_of number round = supplies (page_in number) ∷ accesses number round ∷ cond (round % 16 == 0) writes_back []
@@ -66,7 +66,7 @@ numbered n [] = []
 numbered n (own ∷ rest) = record { number = n; actor = own.actor; action = own.action } ∷ numbered (n + 1) rest
 
 abbrev pub generated_birth : Birth
-generated_birth = record { pages = 256; limit = None; trap = false; users = 1; pagers = 1; image = false }
+generated_birth = record { pages = 256; limit = None; trap = false; users = 1; pagers = 1; image = false; numbered = false }
 
 abbrev pub generated_object : ObjectLine
 generated_object = record { number = 3; name = codes "g"; birth = generated_birth; image = None }
@@ -77,9 +77,10 @@ generated_user = record { number = 4; name = codes "u"; kind = User; objects = 0
 abbrev pub generated_pager : ActorLine
 generated_pager = record { number = 5; name = codes "p"; kind = Pager; objects = 0 ∷ [] }
 
--- 64 frames, an object of 256 pages with a user and a pager, and so many rounds, whose lines are those from the seventh on
+-- in version 1, 64 frames, an object of 256 pages with a user and a pager, and so many rounds, whose lines are those from the seventh on
 abbrev pub generated : ℕ → ℕ → Script
 generated seed count = record {
+  version = 1;
   frames = 64;
   frames_line = 2;
   loan = 0;

@@ -1,6 +1,6 @@
 -- What contracts see of a script's objects and actors in the middle of the script.
 use Rattle.std.specs.Prelude.{◌≡◌, ℕ, ◌+◌, List, [], ◌∷◌, length}
-use Rattle.up_hands.specs.Handed.{Handed}
+use Rattle.up_hands.specs.Handed.{Handed, births_in}
 use Rattle.up_script.specs.declared.script.ActorLine.{ActorLine}
 use Rattle.up_worker.specs.Acting.{Acting, unborn}
 
@@ -15,7 +15,7 @@ abbrev pub unborn_from : ℕ → List ActorLine → List Acting
 unborn_from n [] = []
 unborn_from n (actor ∷ actors) = unborn n actor.kind actor.objects ∷ unborn_from (n + 1) actors
 
--- numbers stay
+-- births and the number of actors stay
 pub record SameShape (old new : Staged) : Type 0 where
-  pub lives : length new.hands.lives ≡ length old.hands.lives
+  pub births : births_in new.hands.lives ≡ births_in old.hands.lives
   pub actors : length new.actors ≡ length old.actors

@@ -34,6 +34,7 @@ pub fn generate(alloc: Global, seed: u64, count: u32) -> Result<Script, Memory>
     actors.push_reserved(user);
     actors.push_reserved(pager);
     Ok(Script {
+        version: 1,
         frames: 64,
         frames_line: 2,
         loan: 0,
@@ -59,6 +60,7 @@ fn object_line(alloc: Global) -> Result<ObjectLine, Memory>
             users: 1,
             pagers: 1,
             image: false,
+            numbered: false,
         },
         image: None,
     })
@@ -133,7 +135,11 @@ fn put_writeback(lines: &mut Lines) -> Result<(), Memory>
         zero: false,
     };
     put_line(lines, PAGER, act(begin))?;
-    put_line(lines, PAGER, act(Call::End { range: all_pages() }))
+    let end = Call::End {
+        range: all_pages(),
+        of: None,
+    };
+    put_line(lines, PAGER, act(end))
 }
 
 fn put_line(lines: &mut Lines, actor: u32, action: Action) -> Result<(), Memory>

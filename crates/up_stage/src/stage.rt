@@ -1,5 +1,5 @@
 ghost use Rattle.std.specs.Prelude.{◌≡◌, ◌≤◌, ◌<◌, true, false, length, slice_get, slice_index, slice_set, Some, IfOk, OnOk};
-ghost use Rattle.up_hands.specs.Handed.{ends_of, AllLegal};
+ghost use Rattle.up_hands.specs.Handed.{births_in, ends_of, AllLegal};
 ghost use Rattle.up_steps.specs.Told as told;
 ghost use Rattle.up_steps.specs.World as world;
 ghost use Rattle.up_stage.specs.Staged.{SameShape};
@@ -79,7 +79,7 @@ impl Stage {
     /// Does all lines.
     pub(crate) fn all_lines(&mut self, alloc: Global, lines: &[Line]) -> Result<(), Memory>
         requires rest { AtRest self.old }
-        requires sound { are_able (length self.old.hands.lives) (length self.old.actors) lines.now ≡ true }
+        requires sound { are_able (births_in self.old.hands.lives) (length self.old.actors) lines.now ≡ true }
         ensures { OnOk result (GoesThrough lines.now (length lines.now) self.old self.new) }
     {
         for at in 0..lines.len() {
@@ -91,7 +91,7 @@ impl Stage {
     /// Does line `at` as far as its actor comes. A line of an actor that waits is put off.
     fn line(&mut self, alloc: Global, lines: &[Line], at: usize) -> Result<(), Memory>
         requires rest { AtRest self.old }
-        requires sound { are_able (length self.old.hands.lives) (length self.old.actors) lines.now ≡ true }
+        requires sound { are_able (births_in self.old.hands.lives) (length self.old.actors) lines.now ≡ true }
         requires within { at < length lines.now }
         ensures { OnOk result (Does lines.now at self.old self.new) }
     {
@@ -121,7 +121,7 @@ impl Stage {
     ) -> Result<(), Memory>
         requires rest { AtRest self.old }
         requires known { who < length self.old.actors }
-        requires sound { are_able (length self.old.hands.lives) (length self.old.actors) lines.now ≡ true }
+        requires sound { are_able (births_in self.old.hands.lives) (length self.old.actors) lines.now ≡ true }
         requires within { end ≤ length lines.now }
         ensures { OnOk result (CatchesUp lines.now who end self.old self.new) }
     {
@@ -138,7 +138,7 @@ impl Stage {
     fn pass(&mut self, alloc: Global, line: &Line, who: u32, next: usize) -> Result<(), Memory>
         requires rest { AtRest self.old }
         requires known { who < length self.old.actors }
-        requires sound { is_able_line (length self.old.hands.lives) (length self.old.actors) line.now ≡ true }
+        requires sound { is_able_line (births_in self.old.hands.lives) (length self.old.actors) line.now ≡ true }
         requires free { is_waiting self.old who ≡ false }
         ensures rest { OnOk result (AtRest self.new) }
         ensures shape { OnOk result (SameShape self.old self.new) }
@@ -155,7 +155,7 @@ impl Stage {
     /// Does a line of an actor that doesn't wait, as far as it comes. Line `next` stands behind it.
     fn act(&mut self, alloc: Global, line: &Line, next: usize) -> Result<(), Memory>
         requires rest { AtRest self.old }
-        requires sound { is_able_line (length self.old.hands.lives) (length self.old.actors) line.now ≡ true }
+        requires sound { is_able_line (births_in self.old.hands.lives) (length self.old.actors) line.now ≡ true }
         requires call { told.is_go line.now.action ≡ false }
         requires free { is_waiting self.old line.now.actor ≡ false }
         ensures rest { OnOk result (AtRest self.new) }

@@ -121,7 +121,10 @@ fn copy_least(call: &Call) -> Call
             range: *range,
             zero: *zero,
         },
-        Call::End { range } => Call::End { range: *range },
+        Call::End { range, of } => Call::End {
+            range: *range,
+            of: *of,
+        },
         Call::Query { range, room } => Call::Query {
             range: *range,
             room: *room,

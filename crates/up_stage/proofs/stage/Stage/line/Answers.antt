@@ -1,6 +1,7 @@
 use Rattle.std.proofs.Common.{◌≡◌, true, false, length, Some, refl, sym, ◌∙◌, slice_get}
 use Rattle.std.proofs.lemmas.Option.{slice_get_read}
 use Rattle.std.proofs.lemmas.Result.{IfOk-weaker}
+use Rattle.up_hands.specs.Handed.{births_in}
 use Rattle.up_stage.specs.Lines.{CatchesUp, Does}
 use Rattle.up_stage.proofs.Abling.{able_at, able_known}
 use Rattle.up_stage.proofs.Going.{did_nothing, did_act, did_resume}
@@ -13,7 +14,7 @@ returns-then-not-parked c =
     let old = c.args.self.now in
     let line = c.index-lines-at.result in
     let is : slice_get lines c.args.at ≡ Some line = slice_get_read lines (length lines) c.args.at line refl c.requires.within c.index-lines-at.is in
-    let within = able_known (length old.hands.lives) (length old.actors) line (able_at (length old.hands.lives) (length old.actors) lines c.args.at line c.requires.sound is) in
+    let within = able_known (births_in old.hands.lives) (length old.actors) line (able_at (births_in old.hands.lives) (length old.actors) lines c.args.at line c.requires.sound is) in
     let a = get_some old.actors line.actor within in
     let go = sym c.is_go.ensures ∙ c.if-is_go.true in
     let free = sym c.is_parked-parked.ensures ∙ c.if-not-parked.true in
@@ -25,7 +26,7 @@ returns-then-is_go c =
     let old = c.args.self.now in
     let line = c.index-lines-at.result in
     let is : slice_get lines c.args.at ≡ Some line = slice_get_read lines (length lines) c.args.at line refl c.requires.within c.index-lines-at.is in
-    let within = able_known (length old.hands.lives) (length old.actors) line (able_at (length old.hands.lives) (length old.actors) lines c.args.at line c.requires.sound is) in
+    let within = able_known (births_in old.hands.lives) (length old.actors) line (able_at (births_in old.hands.lives) (length old.actors) lines c.args.at line c.requires.sound is) in
     let a = get_some old.actors line.actor within in
     let go = sym c.is_go.ensures ∙ c.if-is_go.true in
     let waits = sym c.is_parked-parked.ensures ∙ c.if-not-parked.false in
@@ -39,7 +40,7 @@ returns-then-parked c =
     let old = c.args.self.now in
     let line = c.index-lines-at.result in
     let is : slice_get lines c.args.at ≡ Some line = slice_get_read lines (length lines) c.args.at line refl c.requires.within c.index-lines-at.is in
-    let within = able_known (length old.hands.lives) (length old.actors) line (able_at (length old.hands.lives) (length old.actors) lines c.args.at line c.requires.sound is) in
+    let within = able_known (births_in old.hands.lives) (length old.actors) line (able_at (births_in old.hands.lives) (length old.actors) lines c.args.at line c.requires.sound is) in
     let a = get_some old.actors line.actor within in
     let other = sym c.is_go.ensures ∙ c.if-is_go.false in
     let waits = sym c.is_parked-parked.ensures ∙ c.if-parked.true in
@@ -51,7 +52,7 @@ returns c =
     let old = c.args.self.now in
     let line = c.index-lines-at.result in
     let is : slice_get lines c.args.at ≡ Some line = slice_get_read lines (length lines) c.args.at line refl c.requires.within c.index-lines-at.is in
-    let within = able_known (length old.hands.lives) (length old.actors) line (able_at (length old.hands.lives) (length old.actors) lines c.args.at line c.requires.sound is) in
+    let within = able_known (births_in old.hands.lives) (length old.actors) line (able_at (births_in old.hands.lives) (length old.actors) lines c.args.at line c.requires.sound is) in
     let a = get_some old.actors line.actor within in
     let other = sym c.is_go.ensures ∙ c.if-is_go.false in
     let free = sym c.is_parked-parked.ensures ∙ c.if-parked.false in
