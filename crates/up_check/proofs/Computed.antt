@@ -17,7 +17,7 @@ use Rattle.up_model.specs.declared.entry.Reply.TheVariants as answer
 
 -- an object of two pages that may grow to four, with two users and a pager
 abbrev born : Birth
-born = record { pages = 2; limit = Some 4; trap = false; users = 2; pagers = 1; image = false }
+born = record { pages = 2; limit = Some 4; trap = false; users = 2; pagers = 1; image = false; numbered = false }
 
 abbrev by : ℕ → Call → Reply → Entry
 by who call reply = record { who = who; epoch = 0; call = call; reply = reply }

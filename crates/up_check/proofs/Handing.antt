@@ -39,17 +39,17 @@ agrees_by birth h _ brought frames is told none = none is
 pub record Hands (birth : Birth) (h : List Entry) (banks : BankPair) (who : ℕ) (made : Call) (frames : FramesIn) : Type 0 where
   pub own : AllAre (bank_of banks (kind_taken made)) (frames_of frames)
   pub agrees : Agrees made frames
-  pub proper : IsTrue (proper h who made)
+  pub proper : IsTrue (proper birth h who made)
 
-pub hands_in : (birth : Birth) (h : List Entry) (banks : BankPair) (who : ℕ) (c made : Call) (brought : Brought) (kind : FrameKind) (frames : FramesIn) → true ≡ proper h who c →
+pub hands_in : (birth : Birth) (h : List Entry) (banks : BankPair) (who : ℕ) (c made : Call) (brought : Brought) (kind : FrameKind) (frames : FramesIn) → true ≡ proper birth h who c →
     brought ≡ brought_again birth h c → made ≡ bringing brought c → kind ≡ kind_taken made → HandedIn banks kind brought frames → Hands birth h banks who made frames
 hands_in birth h banks who c made brought kind frames may is same k handed = record {
   own = subst (λ x. AllAre (bank_of banks x) (frames_of frames)) k handed.own;
   agrees = subst (λ x. Agrees x frames) (sym same) (agrees_by birth h c brought frames is handed.told handed.none);
-  proper = ap (proper h who) (same ∙ ap (λ b. bringing b c) is) ∙ proper_again birth h who c (sym may);
+  proper = ap (proper birth h who) (same ∙ ap (λ b. bringing b c) is) ∙ proper_again birth h who c (sym may);
 }
 
-pub counts_in : (birth : Birth) (h : List Entry) (who : ℕ) (c : Call) (brought : Brought) → true ≡ proper h who c → brought ≡ brought_again birth h c → counts_frames brought ≡ true
+pub counts_in : (birth : Birth) (h : List Entry) (who : ℕ) (c : Call) (brought : Brought) → true ≡ proper birth h who c → brought ≡ brought_again birth h c → counts_frames brought ≡ true
 counts_in birth h who c brought may is = ap counts_frames is ∙ counts_again birth h who c (sym may)
 
 -- what the banks hand out

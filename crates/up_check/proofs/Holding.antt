@@ -63,20 +63,20 @@ and_all : (a b c : Bool) → ((a && b) && c) ≡ (a && (b && c))
 and_all true b c = refl
 and_all false b c = refl
 
-retry_is : (h : List Entry) (who t : ℕ) (c : Call) → retried c ≡ Some t → proper h who c ≡ (is_by (owner h t) who && (not (spent h t) && counts_frames (brought_by c)))
-retry_is h who t (calls.Retry ticket brought) is = let one : ticket ≡ t = cc in λ i. is_by (owner h (one i)) who && (not (spent h (one i)) && counts_frames brought)
-retry_is h who t _ is = absurd cc
+retry_is : (birth : Birth) (h : List Entry) (who t : ℕ) (c : Call) → retried c ≡ Some t → proper birth h who c ≡ (is_by (owner h t) who && (not (spent h t) && counts_frames (brought_by c)))
+retry_is birth h who t (calls.Retry ticket brought) is = let one : ticket ≡ t = cc in λ i. is_by (owner h (one i)) who && (not (spent h (one i)) && counts_frames brought)
+retry_is birth h who t _ is = absurd cc
 
 -- a retry is proper for who holds its ticket
-pub retry_told : (h : List Entry) (who t : ℕ) (c : Call) (holds : Bool) (answer : Bool) → retried c ≡ Some t → holds ≡ (is_by (owner h t) who && not (spent h t)) → answer ≡ (holds && counts_frames (brought_by c)) →
-    answer ≡ proper h who c
-retry_told h who t c holds answer is held told =
-    told ∙ ap (λ b. b && counts_frames (brought_by c)) held ∙ and_all (is_by (owner h t) who) (not (spent h t)) (counts_frames (brought_by c)) ∙ sym (retry_is h who t c is)
+pub retry_told : (birth : Birth) (h : List Entry) (who t : ℕ) (c : Call) (holds : Bool) (answer : Bool) → retried c ≡ Some t → holds ≡ (is_by (owner h t) who && not (spent h t)) → answer ≡ (holds && counts_frames (brought_by c)) →
+    answer ≡ proper birth h who c
+retry_told birth h who t c holds answer is held told =
+    told ∙ ap (λ b. b && counts_frames (brought_by c)) held ∙ and_all (is_by (owner h t) who) (not (spent h t)) (counts_frames (brought_by c)) ∙ sym (retry_is birth h who t c is)
 
-other_is : (h : List Entry) (who : ℕ) (c : Call) → retried c ≡ None → proper [] who c ≡ proper h who c
-other_is h who (calls.Retry ticket brought) is = absurd cc
-other_is h who _ is = refl
+other_is : (birth : Birth) (h : List Entry) (who : ℕ) (c : Call) → retried c ≡ None → proper birth [] who c ≡ proper birth h who c
+other_is birth h who (calls.Retry ticket brought) is = absurd cc
+other_is birth h who _ is = refl
 
 -- any other call whatever the journal is
-pub other_told : (h : List Entry) (who : ℕ) (c : Call) (answer : Bool) → retried c ≡ None → answer ≡ proper [] who c → answer ≡ proper h who c
-other_told h who c answer is told = told ∙ other_is h who c is
+pub other_told : (birth : Birth) (h : List Entry) (who : ℕ) (c : Call) (answer : Bool) → retried c ≡ None → answer ≡ proper birth [] who c → answer ≡ proper birth h who c
+other_told birth h who c answer is told = told ∙ other_is birth h who c is

@@ -18,6 +18,7 @@ use Rattle.up_core.proofs.Enough.{only_for_enough, proper_alike}
 use Rattle.up_check.specs.Faults.{IsFault}
 use Rattle.up_check.specs.Replaying.{brought_by, at_most, brought_again, again, Replays}
 use Rattle.up_check.specs.declared.judging.Judged.TheVariants.{Right, Fault}
+use Rattle.up_check.specs.declared.replay.MadeAgain.TheVariants.{Judged as JudgedAgain}
 
 own_brought : (c : Call) → bringing (brought_by c) c ≡ c
 own_brought (calls.Read piece last brought) = refl
@@ -71,26 +72,26 @@ counts_at_most n (Frames given) counts = counts_where n given (nat_le n given) c
 counts_at_most n Scanned counts = refl
 
 -- a proper call brings some frames, if any
-counts_brought : (h : List Entry) (who : ℕ) (c : Call) → proper h who c ≡ true → counts_frames (brought_by c) ≡ true
-counts_brought h who (calls.Read piece last brought) is = (and_parts _ _ is).1
-counts_brought h who (calls.Write off bytes last brought) is = (and_parts _ _ is).1
-counts_brought h who (calls.Retry ticket brought) is = (and_parts _ _ (and_parts _ _ is).1).1
-counts_brought h who (calls.Supply range bytes brought) is = (and_parts _ _ (and_parts _ _ is).1).1
-counts_brought h who (calls.Dirty range brought) is = is
-counts_brought h who (calls.Pin range brought) is = is
-counts_brought h who (calls.Borrow page brought) is = is
-counts_brought h who (calls.Vacate brought) is = is
-counts_brought h who _ is = refl
+counts_brought : (birth : Birth) (h : List Entry) (who : ℕ) (c : Call) → proper birth h who c ≡ true → counts_frames (brought_by c) ≡ true
+counts_brought birth h who (calls.Read piece last brought) is = (and_parts _ _ is).1
+counts_brought birth h who (calls.Write off bytes last brought) is = (and_parts _ _ is).1
+counts_brought birth h who (calls.Retry ticket brought) is = (and_parts _ _ (and_parts _ _ is).1).1
+counts_brought birth h who (calls.Supply range bytes brought) is = (and_parts _ _ (and_parts _ _ is).1).1
+counts_brought birth h who (calls.Dirty range brought) is = is
+counts_brought birth h who (calls.Pin range brought) is = is
+counts_brought birth h who (calls.Borrow page brought) is = is
+counts_brought birth h who (calls.Vacate brought) is = is
+counts_brought birth h who _ is = refl
 
-pub counts_again : (birth : Birth) (h : List Entry) (who : ℕ) (c : Call) → proper h who c ≡ true → counts_frames (brought_again birth h c) ≡ true
-counts_again birth h who (calls.Supply range bytes brought) is = counts_brought h who (calls.Supply range bytes brought) is
-counts_again birth h who c is = counts_at_most (needed birth h c) (brought_by c) (counts_brought h who c is)
+pub counts_again : (birth : Birth) (h : List Entry) (who : ℕ) (c : Call) → proper birth h who c ≡ true → counts_frames (brought_again birth h c) ≡ true
+counts_again birth h who (calls.Supply range bytes brought) is = counts_brought birth h who (calls.Supply range bytes brought) is
+counts_again birth h who c is = counts_at_most (needed birth h c) (brought_by c) (counts_brought birth h who c is)
 
 both : (p q : Bool) → p ≡ true → q ≡ true → (p && q) ≡ true
 both true q one other = other
 both false q one other = absurd cc
 
-pub proper_again : (birth : Birth) (h : List Entry) (who : ℕ) (c : Call) → proper h who c ≡ true → proper h who (again birth h c) ≡ true
+pub proper_again : (birth : Birth) (h : List Entry) (who : ℕ) (c : Call) → proper birth h who c ≡ true → proper birth h who (again birth h c) ≡ true
 proper_again birth h who (calls.Supply range bytes brought) is = is
 proper_again birth h who (calls.Read piece last brought) is = both _ _ (and_parts _ _ is).0 (counts_again birth h who (calls.Read piece last brought) is)
 proper_again birth h who (calls.Write off bytes last brought) is = both _ _ (and_parts _ _ is).0 (counts_again birth h who (calls.Write off bytes last brought) is)
@@ -124,17 +125,17 @@ same_more : (birth : Birth) (now h : List Entry) (e : Entry) (told : Reply) → 
 same_more birth now h e told same is =
     λ i. record { who = e.who; epoch = e.epoch; call = bare_again (brought_again birth now e.call) e.call i; reply = sym is i } ∷ same i
 
-proper_after : (now h : List Entry) (who : ℕ) (c : Call) (test : Bool) → SameButFrames now h → test ≡ proper now who c → proper h who c ≡ test
-proper_after now h who c test same is = sym (is ∙ proper_alike now h who c same)
+proper_after : (birth : Birth) (now h : List Entry) (who : ℕ) (c : Call) (test : Bool) → SameButFrames now h → test ≡ proper birth now who c → proper birth h who c ≡ test
+proper_after birth now h who c test same is = sym (is ∙ proper_alike birth now h who c same)
 
-pub improper : (birth : Birth) (now h : List Entry) (e : Entry) → SameButFrames now h → false ≡ proper now e.who e.call → IsFault birth h e None
-improper birth now h e same is = proper_after now h e.who e.call false same is
+pub improper : (birth : Birth) (now h : List Entry) (e : Entry) → SameButFrames now h → false ≡ proper birth now e.who e.call → IsFault birth h e None
+improper birth now h e same is = proper_after birth now h e.who e.call false same is
 
-pub right : (birth : Birth) (now h : List Entry) (e : Entry) (told : Reply) → SameButFrames now h → true ≡ proper now e.who e.call →
-    told ≡ reply birth now e.who e.epoch (again birth now e.call) → e.reply ≡ told → Replays birth h e (made birth now e told ∷ now) (Some Right)
+pub right : (birth : Birth) (now h : List Entry) (e : Entry) (told : Reply) → SameButFrames now h → true ≡ proper birth now e.who e.call →
+    told ≡ reply birth now e.who e.epoch (again birth now e.call) → e.reply ≡ told → Replays birth h e (made birth now e told ∷ now) (JudgedAgain Right)
 right birth now h e told same is due one =
-    ((proper_after now h e.who e.call true same is, one ∙ due ∙ reply_again birth now h e.who e.epoch e.call same), same_more birth now h e told same one)
+    ((proper_after birth now h e.who e.call true same is, one ∙ due ∙ reply_again birth now h e.who e.epoch e.call same), same_more birth now h e told same one)
 
-pub wrong : (birth : Birth) (now h : List Entry) (e : Entry) (told : Reply) → SameButFrames now h → true ≡ proper now e.who e.call →
+pub wrong : (birth : Birth) (now h : List Entry) (e : Entry) (told : Reply) → SameButFrames now h → true ≡ proper birth now e.who e.call →
     told ≡ reply birth now e.who e.epoch (again birth now e.call) → e.reply ≢ told → IsFault birth h e (Some told)
-wrong birth now h e told same is due other = (proper_after now h e.who e.call true same is, due ∙ reply_again birth now h e.who e.epoch e.call same, other)
+wrong birth now h e told same is due other = (proper_after birth now h e.who e.call true same is, due ∙ reply_again birth now h e.who e.epoch e.call same, other)

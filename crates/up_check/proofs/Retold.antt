@@ -10,9 +10,10 @@ use Rattle.up_core.specs.Groups.{bringing}
 use Rattle.up_core.specs.Enough.{SameButFrames}
 use Rattle.up_check.specs.Replaying.{brought_again, again, Replays}
 use Rattle.up_check.specs.declared.judging.Judged.TheVariants.{Right, Fault}
+use Rattle.up_check.specs.declared.replay.MadeAgain.TheVariants.{Judged as JudgedAgain}
 use Rattle.up_check.proofs.Replayed.{made, improper, right, wrong}
 
-pub improper_told : (old : Whole) (h now : List Entry) (e : Entry) → SameButFrames old.journal h → false ≡ proper old.journal e.who e.call → Replays old.birth h e now (Some (Fault None))
+pub improper_told : (old : Whole) (h now : List Entry) (e : Entry) → SameButFrames old.journal h → false ≡ proper old.birth old.journal e.who e.call → Replays old.birth h e now (JudgedAgain (Fault None))
 improper_told old h now e same is = improper old.birth old.journal h e same is
 
 again_is : (old : Whole) (e : Entry) (call : Call) (brought : Brought) → brought ≡ brought_again old.birth old.journal e.call → call ≡ bringing brought e.call → call ≡ again old.birth old.journal e.call
@@ -22,15 +23,15 @@ due_again : (old : Whole) (e : Entry) (call : Call) (told : Reply) → call ≡ 
     told ≡ reply old.birth old.journal e.who e.epoch (again old.birth old.journal e.call)
 due_again old e call told is due = due ∙ ap (reply old.birth old.journal e.who e.epoch) is
 
-pub right_told : (old new : Whole) (h : List Entry) (e : Entry) (call : Call) (brought : Brought) (told : Reply) → SameButFrames old.journal h → true ≡ proper old.journal e.who e.call →
+pub right_told : (old new : Whole) (h : List Entry) (e : Entry) (call : Call) (brought : Brought) (told : Reply) → SameButFrames old.journal h → true ≡ proper old.birth old.journal e.who e.call →
     brought ≡ brought_again old.birth old.journal e.call → call ≡ bringing brought e.call → told ≡ reply old.birth old.journal e.who e.epoch call → new ≡ after old e.who e.epoch call → e.reply ≡ told →
-    Replays old.birth h e new.journal (Some Right)
+    Replays old.birth h e new.journal (JudgedAgain Right)
 right_told old new h e call brought told same may is makes due stands one =
     let c = again_is old e call brought is makes in
     let journal : new.journal ≡ made old.birth old.journal e told ∷ old.journal =
     ap (λ (w : Whole). w.journal) stands ∙ (λ i. record { who = e.who; epoch = e.epoch; call = c i; reply = sym due i } ∷ old.journal) in
-    subst (λ j. Replays old.birth h e j (Some Right)) (sym journal) (right old.birth old.journal h e told same may (due_again old e call told c due) one)
+    subst (λ j. Replays old.birth h e j (JudgedAgain Right)) (sym journal) (right old.birth old.journal h e told same may (due_again old e call told c due) one)
 
-pub wrong_told : (old new : Whole) (h : List Entry) (e : Entry) (call : Call) (brought : Brought) (told : Reply) → SameButFrames old.journal h → true ≡ proper old.journal e.who e.call →
-    brought ≡ brought_again old.birth old.journal e.call → call ≡ bringing brought e.call → told ≡ reply old.birth old.journal e.who e.epoch call → e.reply ≢ told → Replays old.birth h e new.journal (Some (Fault (Some told)))
+pub wrong_told : (old new : Whole) (h : List Entry) (e : Entry) (call : Call) (brought : Brought) (told : Reply) → SameButFrames old.journal h → true ≡ proper old.birth old.journal e.who e.call →
+    brought ≡ brought_again old.birth old.journal e.call → call ≡ bringing brought e.call → told ≡ reply old.birth old.journal e.who e.epoch call → e.reply ≢ told → Replays old.birth h e new.journal (JudgedAgain (Fault (Some told)))
 wrong_told old new h e call brought told same may is makes due other = wrong old.birth old.journal h e told same may (due_again old e call told (again_is old e call brought is makes) due) other

@@ -12,9 +12,9 @@ use Rattle.up_check.specs.declared.verdict.Verdict.TheVariants.{Legal as LegalVe
 -- after the entries h, newest first, this entry is at fault: its call isn't proper, and nothing is expected; or it is,
 -- and the reply that is expected is another
 abbrev pub IsFault : Birth → List Entry → Entry → Option Reply → Type 0
-IsFault birth h e None = proper h e.who e.call ≡ false
+IsFault birth h e None = proper birth h e.who e.call ≡ false
 IsFault birth h e (Some expected) =
-    IsTrue (proper h e.who e.call) × (expected ≡ reply birth h e.who e.epoch e.call) × (e.reply ≢ expected)
+    IsTrue (proper birth h e.who e.call) × (expected ≡ reply birth h e.who e.epoch e.call) × (e.reply ≢ expected)
 
 -- the first n entries of a journal that was read, which stands oldest entry first, as a journal
 abbrev pub first_entries : List Entry → ℕ → List Entry

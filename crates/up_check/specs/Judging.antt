@@ -12,7 +12,7 @@ use Rattle.up_check.specs.declared.judging.Judged.TheVariants.{Right, Fault as F
 
 -- after the entries h, newest first, the entry stands as told
 abbrev pub IsJudged : Birth → List Entry → Entry → Judged → Type 0
-IsJudged birth h e Right = IsTrue (proper h e.who e.call) × (e.reply ≡ reply birth h e.who e.epoch e.call)
+IsJudged birth h e Right = IsTrue (proper birth h e.who e.call) × (e.reply ≡ reply birth h e.who e.epoch e.call)
 IsJudged birth h e (FaultFound expected) = IsFault birth h e expected
 
 -- of entries that were read, oldest first, all are right where nothing was found, and otherwise that is the first fault

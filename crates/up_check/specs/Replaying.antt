@@ -9,7 +9,11 @@ use Rattle.up_model.specs.declared.entry.Entry.{Entry}
 use Rattle.up_object.specs.Steps.{brought_count}
 use Rattle.up_core.specs.Groups.{bringing}
 use Rattle.up_core.specs.Enough.{SameButFrames, needed}
-use Rattle.up_check.specs.Judging.{IsJudged}
+use Rattle.up_check.specs.Judging.{IsJudged, Finds}
+use Rattle.up_check.specs.declared.replay.MadeAgain.{MadeAgain}
+use Rattle.up_check.specs.declared.replay.MadeAgain.TheVariants.{Judged as JudgedAgain, TooLarge as MadeTooLarge}
+use Rattle.up_check.specs.declared.replay.Replayed.{Replayed}
+use Rattle.up_check.specs.declared.replay.Replayed.TheVariants.{Found, TooLarge}
 use Rattle.up_check.specs.declared.judging.Judged.{Judged}
 use Rattle.up_check.specs.declared.judging.Judged.TheVariants.{Right, Fault}
 
@@ -54,8 +58,13 @@ brought_again birth h call = cond (is_supply call) (brought_by call) (at_most (n
 abbrev pub again : Birth → List Entry → Call → Call
 again birth h call = bringing (brought_again birth h call) call
 
--- what replay finds of the entry e after h: nothing; or how it stands, and where it is right the object's journal is then that of the entries but for frames
-abbrev pub Replays : Birth → List Entry → Entry → List Entry → Option Judged → Type 0
-Replays birth h e now None = Unit {0}
-Replays birth h e now (Some Right) = IsJudged birth h e Right × SameButFrames now (e ∷ h)
-Replays birth h e now (Some (Fault expected)) = IsJudged birth h e (Fault expected)
+-- what replay finds of the entry e after h: how it stands, and where it is right the object's journal is then that of the entries but for frames
+abbrev pub Replays : Birth → List Entry → Entry → List Entry → MadeAgain → Type 0
+Replays birth h e now MadeTooLarge = Unit {0}
+Replays birth h e now (JudgedAgain Right) = IsJudged birth h e Right × SameButFrames now (e ∷ h)
+Replays birth h e now (JudgedAgain (Fault expected)) = IsJudged birth h e (Fault expected)
+
+-- what a replay finds of entries, oldest first
+abbrev pub FindsByReplay : Birth → List Entry → Replayed → Type 0
+FindsByReplay birth entries TooLarge = Unit {0}
+FindsByReplay birth entries (Found found) = Finds birth entries found

@@ -13,7 +13,7 @@ use up_num::{Bytes, Memory};
 use up_object::Object;
 
 /// The call, where it brings this instead.
-pub(crate) fn call_with(alloc: Global, call: &Call, brought: Brought) -> Result<Call, Memory>
+pub fn call_with(alloc: Global, call: &Call, brought: Brought) -> Result<Call, Memory>
     ensures { IfOk result (λ made. made ≡ bringing brought call.now) }
 {
     Ok(match call {
@@ -73,7 +73,10 @@ fn plain_call(call: &Call) -> Call
             range: *range,
             zero: *zero,
         },
-        Call::End { range } => Call::End { range: *range },
+        Call::End { range, of } => Call::End {
+            range: *range,
+            of: *of,
+        },
         Call::Query { range, room } => Call::Query {
             range: *range,
             room: *room,
@@ -109,7 +112,7 @@ fn rare_call(call: &Call) -> Call
 }
 
 /// What a call says that it brought; nothing where it takes no frames.
-pub(crate) fn brought_by(call: &Call) -> Brought
+pub fn brought_by(call: &Call) -> Brought
     ensures { result ≡ replaying.brought_by call.now }
 {
     match call {
@@ -128,7 +131,7 @@ pub(crate) fn brought_by(call: &Call) -> Brought
 /// What the call is to bring for the same reply: as many frames as it needs, where it brought as many, else its own number.
 /// A supply brings what it brought.
 pub(crate) fn brought_again(object: &Object, call: &Call) -> Brought
-    requires proper { (who : ℕ) × IsTrue (proper object.now.journal who call.now) }
+    requires proper { (who : ℕ) × IsTrue (proper object.now.birth object.now.journal who call.now) }
     ensures { result ≡ replaying.brought_again object.now.birth object.now.journal call.now }
 {
     let brought = brought_by(call);

@@ -3,7 +3,7 @@ ghost use Rattle.up_check.specs.Faults.{AreLegal, IsVerdict, tells_legal};
 ghost use Rattle.up_check.specs.Judging.{IsFound};
 
 use crate::looking::look_back;
-use crate::replay::replay;
+use crate::replay::{Replayed, replay};
 use crate::verdict::Verdict;
 use std::alloc::Global;
 use up_model::Reply;
@@ -36,23 +36,23 @@ enum Way {
 /// Whether all journals are legal, or the first entry that is at fault, in the order of their text. A journal whose number
 /// doesn't fit is told as want of memory.
 pub fn check(alloc: Global, journals: &Journals) -> Result<Verdict, Memory>
-    ensures told { IfOk result (IsVerdict journals.now) }
-    ensures exact { IfOk result (λ verdict. IsTrue (tells_legal verdict) ↔ AreLegal journals.now) }
+    ensures told { IfOk result (IsVerdict journals.now.list) }
+    ensures exact { IfOk result (λ verdict. IsTrue (tells_legal verdict) ↔ AreLegal journals.now.list) }
 {
     check_by(alloc, journals, Way::Replay)
 }
 
 /// The same, found by looking back over all entries for each entry.
 pub fn check_slow(alloc: Global, journals: &Journals) -> Result<Verdict, Memory>
-    ensures told { IfOk result (IsVerdict journals.now) }
-    ensures exact { IfOk result (λ verdict. IsTrue (tells_legal verdict) ↔ AreLegal journals.now) }
+    ensures told { IfOk result (IsVerdict journals.now.list) }
+    ensures exact { IfOk result (λ verdict. IsTrue (tells_legal verdict) ↔ AreLegal journals.now.list) }
 {
     check_by(alloc, journals, Way::LookBack)
 }
 
 fn check_by(alloc: Global, journals: &Journals, way: Way) -> Result<Verdict, Memory>
-    ensures told { IfOk result (IsVerdict journals.now) }
-    ensures exact { IfOk result (λ verdict. IsTrue (tells_legal verdict) ↔ AreLegal journals.now) }
+    ensures told { IfOk result (IsVerdict journals.now.list) }
+    ensures exact { IfOk result (λ verdict. IsTrue (tells_legal verdict) ↔ AreLegal journals.now.list) }
 {
     for number in 0..journals.len() {
         if let Some(Fault { entry, expected }) = find_fault(alloc, journals.at(number), way)? {
@@ -75,8 +75,8 @@ fn find_fault(alloc: Global, journal: &Named, way: Way) -> Result<Option<Fault>,
 {
     match way {
         Way::Replay => match replay(alloc, journal)? {
-            Some(found) => Ok(found),
-            None => look_back(alloc, journal),
+            Replayed::Found(found) => Ok(found),
+            Replayed::TooLarge => look_back(alloc, journal),
         },
         Way::LookBack => look_back(alloc, journal),
     }

@@ -10,5 +10,9 @@ mod replay;
 mod sizes;
 mod verdict;
 
+pub use bringing::{brought_by, call_with};
 pub use judging::{check, check_slow};
+pub use pool::Pool;
+pub use replay::{kind_of, may_call};
+pub use sizes::{Sizes, is_fair};
 pub use verdict::Verdict;

@@ -31,7 +31,7 @@ pub(crate) fn look_back(alloc: Global, journal: &Named) -> Result<Option<Fault>,
 fn judge(alloc: Global, birth: &Birth, before: &[Entry], entry: &Entry) -> Result<Judged, Memory>
     ensures { IfOk result (IsJudged birth.now (reverse before.now) entry.now) }
 {
-    if !is_proper(before, entry.who, &entry.call) {
+    if !is_proper(birth, before, entry.who, &entry.call) {
         return Ok(Judged::Fault(None));
     }
     let expected = reply_slow(alloc, birth, before, entry.who, entry.epoch, &entry.call)?;

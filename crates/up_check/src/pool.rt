@@ -1,4 +1,4 @@
-//! The banks of a replayed journal.
+//! The banks of a journal whose calls are made again.
 ghost use Rattle.std.specs.Prelude.{◌≡◌, ◌+◌, ◌<◌, ◌≤◌, [], true, length, sum, IfOk, IfSome};
 ghost use Rattle.up_bank.specs.Standing.{most_frames};
 ghost use Rattle.up_bank.specs.declared.kind.FrameKind.TheVariants.{Ordinary as OrdinaryKind, Loaned as LoanedKind};
@@ -19,7 +19,7 @@ use up_pages::Frames;
 
 /// A bank of ordinary frames and one of loaned frames, and one of a single frame for scans, with the only seat of each.
 #[derive(Drop)]
-pub(crate) struct Pool {
+pub struct Pool {
     ordinary: Bank,
     loaned: Bank,
     single: Bank,
@@ -41,7 +41,7 @@ impl Model for Pool {
 
 impl Pool {
     /// So many frames of each kind, all at home.
-    pub(crate) fn new(alloc: Global, sizes: Sizes) -> Result<Pool, Memory>
+    pub fn new(alloc: Global, sizes: Sizes) -> Result<Pool, Memory>
         requires ordinary { (0 < sizes.ordinary) × (sizes.ordinary ≤ most_frames) }
         requires loaned { (0 < sizes.loaned) × (sizes.loaned ≤ most_frames) }
     {
@@ -59,7 +59,7 @@ impl Pool {
     }
 
     /// A new object, whose frames will be of these banks.
-    pub(crate) fn birth(&self, alloc: Global, birth: Birth) -> Result<Object, Memory>
+    pub fn birth(&self, alloc: Global, birth: Birth) -> Result<Object, Memory>
         requires users { (0 < birth.users) × (birth.users ≤ 64) }
         requires pagers { (0 < birth.pagers) × (birth.pagers ≤ 64) }
         ensures { IfOk result (λ object. object ≡ record { birth = birth; journal = []; banks = self.now }) }
@@ -69,7 +69,7 @@ impl Pool {
 
     /// What a call is handed that brings this; nothing where the bank lacks frames.
     #[tactic(auto, using(crate::proofs::Handing::handed_given, crate::proofs::Handing::handed_none, crate::proofs::Handing::handed_scan))]
-    pub(crate) fn hand(
+    pub fn hand(
         &mut self,
         alloc: Global,
         kind: FrameKind,
@@ -165,7 +165,7 @@ impl Pool {
     }
 
     /// Brings frames home, each to the bank of its kind.
-    pub(crate) fn bring_home(&mut self, frames: Frames)
+    pub fn bring_home(&mut self, frames: Frames)
         requires { AllOwn self.old frames.items }
         ensures { self.new ≡ self.old }
     {

@@ -1,5 +1,5 @@
 //! Judges a journal by replay: its calls are made on an object, one after the other, and the replies are compared.
-ghost use Rattle.std.specs.Prelude.{◌≡◌, ◌&&◌, not, List, [], IsTrue, IfOk, IfSome, OnOk, OnErr};
+ghost use Rattle.std.specs.Prelude.{◌≡◌, ◌&&◌, not, List, [], IsTrue, IfOk, OnOk, OnErr};
 ghost use Rattle.up_model.specs.Reply as replies;
 ghost use Rattle.up_model.specs.Parked as parking;
 ghost use Rattle.up_model.specs.Tickets as tickets;
@@ -10,8 +10,7 @@ ghost use Rattle.up_object.specs.Steps.{frames_of};
 ghost use Rattle.up_object.specs.Whole.{after};
 ghost use Rattle.up_core.specs.Enough.{SameButFrames};
 ghost use Rattle.up_core.specs.Requests.{kind_taken, Agrees};
-ghost use Rattle.up_check.specs.Judging.{IsFound, Finds};
-ghost use Rattle.up_check.specs.Replaying.{Replays};
+ghost use Rattle.up_check.specs.Replaying.{FindsByReplay, Replays};
 
 use crate::bringing::{brought_again, brought_by, call_with};
 use crate::judging::{Fault, Judged};
@@ -26,15 +25,31 @@ use up_num::Memory;
 use up_object::{FramesIn, Object, Stepped};
 use up_text::Named;
 
-/// The first entry at fault in a journal; nothing where no object or no bank is as large as it asks.
-pub(crate) fn replay(alloc: Global, journal: &Named) -> Result<Option<Option<Fault>>, Memory>
-    ensures { IfOk result (λ told. IfSome told (IsFound journal.now)) }
+/// What the replay of a journal finds: its first entry at fault, if it has one.
+#[derive(Debug, Drop)]
+pub(crate) enum Replayed {
+    Found(Option<Fault>),
+    /// No object has as many actors, or no bank as many frames, so not all calls were made.
+    TooLarge,
+}
+
+/// How an entry stands whose call is made again.
+#[derive(Debug, Drop)]
+pub(crate) enum MadeAgain {
+    Judged(Judged),
+    /// No bank has as many frames, so the call wasn't made.
+    TooLarge,
+}
+
+/// Finds the first entry at fault in a journal.
+pub(crate) fn replay(alloc: Global, journal: &Named) -> Result<Replayed, Memory>
+    ensures { IfOk result (FindsByReplay journal.now.birth journal.now.entries) }
 {
     if !is_fair(&journal.birth) {
-        return Ok(None);
+        return Ok(Replayed::TooLarge);
     }
     let Some(sizes) = sizes_for(journal) else {
-        return Ok(None);
+        return Ok(Replayed::TooLarge);
     };
     let mut pool = Pool::new(alloc, sizes)?;
     let mut object = pool.birth(alloc, journal.birth)?;
@@ -50,63 +65,63 @@ fn replay_all(
     object: &mut Object,
     pool: &mut Pool,
     entries: &[Entry],
-) -> Result<Option<Option<Fault>>, Memory>
+) -> Result<Replayed, Memory>
     requires fresh { object.old.journal ≡ [] }
     requires banks { object.old.banks ≡ pool.old }
-    ensures told { IfOk result (λ told. IfSome told (Finds object.old.birth entries.now)) }
+    ensures told { IfOk result (FindsByReplay object.old.birth entries.now) }
     ensures same { (object.new.banks ≡ pool.new) × (pool.new ≡ pool.old) }
 {
     for place in 0..entries.len() {
         match replay_one(alloc, object, pool, &entries[place])? {
-            None => return Ok(None),
-            Some(Judged::Right) => {}
-            Some(Judged::Fault(expected)) => {
-                return Ok(Some(Some(Fault {
+            MadeAgain::TooLarge => return Ok(Replayed::TooLarge),
+            MadeAgain::Judged(Judged::Right) => {}
+            MadeAgain::Judged(Judged::Fault(expected)) => {
+                return Ok(Replayed::Found(Some(Fault {
                     entry: place as u64,
                     expected,
                 })));
             }
         }
     }
-    Ok(Some(None))
+    Ok(Replayed::Found(None))
 }
 
-/// Makes the call of an entry, and compares the reply; nothing where a bank lacks frames.
+/// Makes the call of an entry, and compares the reply.
 #[tactic(auto, using(crate::proofs::Handing::counts_in, crate::proofs::Handing::hands_in, crate::proofs::Retold::improper_told, crate::proofs::Retold::right_told, crate::proofs::Retold::wrong_told))]
 fn replay_one(
     alloc: Global,
     object: &mut Object,
     pool: &mut Pool,
     entry: &Entry,
-) -> Result<Option<Judged>, Memory>
+) -> Result<MadeAgain, Memory>
     requires banks { object.old.banks ≡ pool.old }
     ensures told { (h : List EntryValue) → SameButFrames object.old.journal h → IfOk result (Replays object.old.birth h entry.now object.new.journal) }
     ensures same { (object.new.birth ≡ object.old.birth) × (object.new.banks ≡ pool.new) × (pool.new ≡ pool.old) }
 {
     if !may_call(object, entry.who, &entry.call) {
-        return Ok(Some(Judged::Fault(None)));
+        return Ok(MadeAgain::Judged(Judged::Fault(None)));
     }
     let brought = brought_again(object, &entry.call);
     let call = call_with(alloc, &entry.call, brought)?;
     let Some(frames) = pool.hand(alloc, kind_of(&call), brought)? else {
-        return Ok(None);
+        return Ok(MadeAgain::TooLarge);
     };
     let reply = make(alloc, object, pool, entry, call, frames)?;
     if entry.reply.same(&reply) {
-        Ok(Some(Judged::Right))
+        Ok(MadeAgain::Judged(Judged::Right))
     } else {
-        Ok(Some(Judged::Fault(Some(reply))))
+        Ok(MadeAgain::Judged(Judged::Fault(Some(reply))))
     }
 }
 
-/// Whether the call is proper now.
+/// Whether an actor may make the call now: whether it is proper.
 #[tactic(auto, using(crate::proofs::Holding::retry_told, crate::proofs::Holding::other_told))]
-fn may_call(object: &Object, who: u32, call: &Call) -> bool
-    ensures { result ≡ replies.proper object.now.journal who call.now }
+pub fn may_call(object: &Object, who: u32, call: &Call) -> bool
+    ensures { result ≡ replies.proper object.now.birth object.now.journal who call.now }
 {
     match retried(call) {
         Some(ticket) => may_retry(holds(object, who, ticket), brought_by(call)),
-        None => is_proper(&[], who, call),
+        None => is_proper(&object.born(), &[], who, call),
     }
 }
 
@@ -150,7 +165,7 @@ fn holds(object: &Object, who: u32, ticket: u64) -> bool
 }
 
 /// Which frames a call takes.
-fn kind_of(call: &Call) -> FrameKind
+pub fn kind_of(call: &Call) -> FrameKind
     ensures { result ≡ kind_taken call.now }
 {
     match call {
@@ -172,7 +187,7 @@ fn make(
     requires own { AllAre (bank_of pool.old (kind_taken call)) (frames_of frames) }
     requires back { AllOwn pool.old (frames_of frames) }
     requires agrees { Agrees call frames }
-    requires proper { IsTrue (replies.proper object.old.journal entry.now.who call) }
+    requires proper { IsTrue (replies.proper object.old.birth object.old.journal entry.now.who call) }
     ensures reply { IfOk result (λ reply. reply ≡ replies.reply object.old.birth object.old.journal entry.now.who entry.now.epoch call) }
     ensures object { OnOk result (object.new ≡ after object.old entry.now.who entry.now.epoch call) }
     ensures err { OnErr result (object.new ≡ object.old) }

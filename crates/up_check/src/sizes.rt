@@ -7,16 +7,16 @@ use up_text::Named;
 
 /// How many ordinary and loaned frames there are for a journal.
 #[derive(Clone, Copy, Debug)]
-pub(crate) struct Sizes {
-    pub(crate) ordinary: u32,
-    pub(crate) loaned: u32,
+pub struct Sizes {
+    pub ordinary: u32,
+    pub loaned: u32,
 }
 
 /// The most frames that a bank has.
 const MOST: u32 = 131_072;
 
 /// Whether an object may be born so.
-pub(crate) fn is_fair(birth: &Birth) -> bool
+pub fn is_fair(birth: &Birth) -> bool
     ensures { IsTrue result → (0 < birth.now.users) × (birth.now.users ≤ 64) × (0 < birth.now.pagers) × (birth.now.pagers ≤ 64) }
 {
     0 < birth.users && birth.users <= 64 && 0 < birth.pagers && birth.pagers <= 64

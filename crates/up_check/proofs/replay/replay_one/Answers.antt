@@ -13,7 +13,7 @@ pub make-requires-clause-agrees : goal.make-requires-clause-agrees
 make-requires-clause-agrees c =
     let old = c.args.object.now in
     let e = c.args.entry.now in
-    let may : true ≡ replies.proper old.journal e.who e.call = search rules in
+    let may : true ≡ replies.proper old.birth old.journal e.who e.call = search rules in
     let handed : HandedIn c.args.pool.now c.kind_of.result c.brought_again-brought.result c.in-Some.frames = search rules in
     (hands_in old.birth old.journal c.args.pool.now e.who e.call c.in_ok-call.call c.brought_again-brought.result c.kind_of.result c.in-Some.frames may c.brought_again-brought.ensures c.in_ok-call.ensures c.kind_of.ensures handed).agrees
 
@@ -21,7 +21,7 @@ pub make-requires-clause-proper : goal.make-requires-clause-proper
 make-requires-clause-proper c =
     let old = c.args.object.now in
     let e = c.args.entry.now in
-    let may : true ≡ replies.proper old.journal e.who e.call = search rules in
+    let may : true ≡ replies.proper old.birth old.journal e.who e.call = search rules in
     let handed : HandedIn c.args.pool.now c.kind_of.result c.brought_again-brought.result c.in-Some.frames = search rules in
     (hands_in old.birth old.journal c.args.pool.now e.who e.call c.in_ok-call.call c.brought_again-brought.result c.kind_of.result c.in-Some.frames may c.brought_again-brought.ensures c.in_ok-call.ensures c.kind_of.ensures handed).proper
 
@@ -29,7 +29,7 @@ pub returns-then-same-clause-told : goal.returns-then-same-clause-told
 returns-then-same-clause-told c =
     let old = c.args.object.now in
     let e = c.args.entry.now in
-    let may : true ≡ replies.proper old.journal e.who e.call = search rules in
+    let may : true ≡ replies.proper old.birth old.journal e.who e.call = search rules in
     let due : c.in_ok-reply.reply ≡ replies.reply old.birth old.journal e.who e.epoch c.in_ok-call.call = search rules in
     let stands : c.make.new.object ≡ after old e.who e.epoch c.in_ok-call.call = search rules in
     let one : e.reply ≡ c.in_ok-reply.reply = search rules in
@@ -39,7 +39,7 @@ pub returns-else-same-clause-told : goal.returns-else-same-clause-told
 returns-else-same-clause-told c =
     let old = c.args.object.now in
     let e = c.args.entry.now in
-    let may : true ≡ replies.proper old.journal e.who e.call = search rules in
+    let may : true ≡ replies.proper old.birth old.journal e.who e.call = search rules in
     let due : c.in_ok-reply.reply ≡ replies.reply old.birth old.journal e.who e.epoch c.in_ok-call.call = search rules in
     let other : e.reply ≢ c.in_ok-reply.reply = search rules in
     λ h same. wrong_told old c.make.new.object h e c.in_ok-call.call c.brought_again-brought.result c.in_ok-reply.reply same may c.brought_again-brought.ensures c.in_ok-call.ensures due other

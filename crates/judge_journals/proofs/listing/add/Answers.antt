@@ -1,0 +1,15 @@
+use Rattle.std.proofs.Common.{IsTrue, rules}
+use Rattle.up_model.specs.Reply.{proper}
+use Rattle.up_core.specs.Requests.{after_all}
+use Rattle.up_check.specs.Handed.{HandedIn}
+use Rattle.judge_journals.proofs.Kept.{keeps_pushed}
+use Rattle.judge_journals.proofs.listing.add.Goals as goal
+
+pub returns-in-Ok-clause-keeps : goal.returns-in-Ok-clause-keeps
+returns-in-Ok-clause-keeps c =
+    let e = c.args.entry.now in
+    let object = c.args.object.now in
+    let handed : HandedIn c.args.pool.now c.kind_of.result c.brought_by-brought.result c.in-Some.frames = search rules in
+    let may : IsTrue (proper object.birth (after_all object c.args.list.now).journal e.who e.call) = search rules in
+    keeps_pushed object c.args.list.now c.push.new.self _ c.args.pool.now e.call c.brought_by-brought.result c.kind_of.result c.in-Ok.ensures.ok c.requires.banks c.requires.keeps
+    c.brought_by-brought.ensures c.in_ok-call.ensures c.kind_of.ensures handed may

@@ -1,0 +1,12 @@
+use Rattle.std.proofs.Common.{◌≡◌, length}
+use Rattle.up_core.specs.Requests.{AllBackOwn}
+use Rattle.judge_journals.proofs.listing.count_same.Given as goal
+
+abbrev pub invariant-loop-stepped : goal.invariant-loop-stepped
+invariant-loop-stepped l = record {
+  pool : l.pool ≡ l.fn.pool;
+  own : AllBackOwn l.fn.pool l.rest.items;
+}
+
+abbrev pub decreases-loop-stepped : goal.decreases-loop-stepped
+decreases-loop-stepped l = length l.rest.items
