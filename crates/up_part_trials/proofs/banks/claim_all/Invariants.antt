@@ -1,6 +1,0 @@
-use Rattle.std.proofs.Common.{◌≡◌}
-use Rattle.std.specs.List.{All}
-use Rattle.up_part_trials.proofs.banks.claim_all.Given as goal
-
-abbrev pub invariant-loop : goal.invariant-loop
-invariant-loop l = (l.seat.bank ≡ l.bank) × All (λ frame. frame.bank ≡ l.bank) l.frames.items

@@ -1,6 +1,0 @@
-use Rattle.std.proofs.Common.{◌≡◌, length}
-use Rattle.up_part_trials.proofs.culling.pages_of.Given as goal
-
--- as many pages as turns
-abbrev pub invariant-loop-page : goal.invariant-loop-page
-invariant-loop-page l = length l.pages ≡ l.page
