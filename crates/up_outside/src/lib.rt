@@ -9,6 +9,7 @@ mod source;
 mod stream;
 
 pub use in_memory::{MemSink, MemSource, PlainSource};
+pub use plan::Plan;
 pub use sink::{Sink, push_all};
 pub use source::{ReadStop, Source, read_to};
 pub use stream::{ReaderSource, WriterSink};

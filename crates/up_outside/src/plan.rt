@@ -6,15 +6,16 @@ use crate::Failed;
 use std::alloc::Global;
 use up_num::{Items, Memory};
 
-// Which calls on an object in memory are to fail, counted from 1, and how many failed.
+/// Which calls on an object in memory are to fail, counted from 1, and how many failed.
 #[derive(Debug, Drop)]
-pub(crate) struct Plan {
+pub struct Plan {
     pub fail: Items<u32>,
     pub calls: u64,
     pub faults: u64,
 }
 
 impl Plan {
+    /// A plan under which the calls with these numbers fail.
     pub fn new(alloc: Global, fail: &[u32]) -> Result<Self, Memory>
         ensures { IfOk result (λ made. made ≡ record { fail = fail.now; calls = 0; faults = 0 }) }
     {
@@ -26,7 +27,7 @@ impl Plan {
         })
     }
 
-    // Counts a call, which fails where the object is full for it or where it is listed.
+    /// Counts a call, which fails where the object is full for it or where it is listed.
     pub fn begin(&mut self, full: bool) -> Result<(), Failed>
         ensures planned { is_err result ≡ (full || is_listed self.old.fail (counted self.old.calls)) }
         ensures same { self.new.fail ≡ self.old.fail }

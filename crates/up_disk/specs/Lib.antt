@@ -1,0 +1,9 @@
+pub mod Filed
+pub mod Foldered
+pub mod Follows
+pub mod Laws
+pub mod Left
+pub mod LeftLaws
+pub mod Platter
+pub mod Shelved
+pub mod Splits
