@@ -1,6 +1,6 @@
+use crate::chosen::Chosen;
 use up_model::Reply;
 use up_num::{AskKind, PageNo, PageRange};
-use up_span::Spans;
 
 /// The number of a claim. No other claim that is live has it.
 #[derive(Clone, Copy, PartialEq, Eq, Debug)]
@@ -9,13 +9,13 @@ pub struct ClaimNo(pub u64);
 /// A step of the sample pager, or of a user's sync.
 #[derive(Debug, Drop)]
 pub enum SiteStep {
-    /// Does what is most urgent: takes a packet, lets a page get dirty, fetches a page, or begins a writeback, the last before a
-    /// fetch where it is said.
+    /// Does what is most urgent: takes a packet, lets a page get dirty, fetches a page, or begins a writeback, the
+    /// last before a fetch where it is said.
     Pick { write_first: bool },
     /// Says which pages are unclean.
     Survey,
     /// Begins a writeback of some of these pages.
-    PickFrom(Spans),
+    PickFrom(Chosen),
     /// Supplies the page that was fetched, or fails it.
     Deliver,
     /// Copies the bytes that are to be written back.
@@ -60,7 +60,7 @@ pub enum SiteReply {
     /// A claim of these pages is in the way.
     Busy(PageRange),
     /// The pages that are unclean.
-    Surveyed(Spans),
+    Surveyed(Chosen),
     /// None of the pages is unclean any more.
     Clear,
     /// There is nothing to do. Whether the object is detached.

@@ -1,0 +1,5 @@
+pub mod Sets
+pub mod Claimed
+pub mod Listed
+pub mod Sited
+pub mod Slots

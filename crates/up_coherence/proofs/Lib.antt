@@ -1,0 +1,13 @@
+pub mod Pages
+pub mod Firmness
+pub mod Coherence
+pub mod CoherentSteps
+pub mod NewestReads
+pub mod Durability
+pub mod Promised
+pub mod Runs
+pub mod LastRest
+pub mod Sounds
+pub mod Greatest
+pub mod StoredPages
+pub mod WorkedRuns
