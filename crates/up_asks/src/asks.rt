@@ -1,14 +1,12 @@
-ghost use Rattle.std.specs.Prelude.{◌≡◌, ℕ, ◌+◌, ◌-◌, ◌<◌, ◌≤◌, ◌^◌, ◌&&◌, ◌||◌, [], ◌∷◌, ◌++◌, false, true, cond, length, map, Some, None, is_some, slice_get, slice_set, vec_len, MatchOption, IfOk, IfErr, OnOk, OnErr};
+ghost use Rattle.std.specs.Prelude.{◌≡◌, ℕ, ◌+◌, ◌-◌, ◌<◌, ◌≤◌, ◌^◌, ◌&&◌, ◌||◌, [], ◌∷◌, ◌++◌, false, true, cond, length, map, Some, None, is_some, slice_get, slice_set, IfOk, IfErr, OnOk, OnErr};
 ghost use Rattle.up_num.specs.Asks as asking;
 ghost use Rattle.up_num.specs.declared.answers.AskKind.{AskKind as AskKindValue};
-ghost use Rattle.up_num.specs.declared.answers.Outcome.TheVariants.{Detached};
 ghost use Rattle.up_num.specs.declared.answers.Packet.TheVariants.{Complete};
 ghost use Rattle.up_span.specs.Pages.{within};
 ghost use Rattle.up_span.specs.Sets.{holds};
 ghost use Rattle.up_asks.specs.Asking.{Asking, all_detached, pages_of, asked_in, fresh, packets_for, new_ticket, events_of, ticket_after, fixed_among, holder_in, HasRoom, SameAsks, SameButTickets};
 ghost use Rattle.up_asks.specs.Keeps.{AllFixed};
 ghost use Rattle.up_asks.specs.declared.ticket.Ticket.{Ticket as TicketValue};
-ghost use Rattle.up_asks.specs.declared.ticket.Waiter.{Waiter as WaiterValue};
 
 use crate::event::{Event, pages_in, start_of};
 use crate::pages::Pages;
@@ -18,7 +16,7 @@ use crate::waiting::{all_waiting, detach_all, happen, woken_by};
 use std::alloc::Global;
 use std::marker::Model;
 use up_num::{AskKind, Memory, Outcome, Packet, PageNo, PageRange, Woken};
-use up_span::{Run, Runs};
+use up_span::Runs;
 
 /// The pages asked of a pager, the packets sent to it, and the tickets of those who wait.
 #[derive(Debug, Drop)]

@@ -1,5 +1,5 @@
 //! The pages that are asked for with each kind.
-ghost use Rattle.std.specs.Prelude.{◌≡◌, ℕ, ◌+◌, ◌<◌, ◌≤◌, ◌^◌, ◌&&◌, ◌||◌, [], false, length, not, OnOk, OnErr, IfOk};
+ghost use Rattle.std.specs.Prelude.{◌≡◌, ℕ, ◌+◌, ◌<◌, ◌≤◌, ◌^◌, ◌&&◌, ◌||◌, [], false, length, not, OnOk, IfOk};
 ghost use Rattle.up_num.specs.Asks as asks;
 ghost use Rattle.up_num.specs.declared.answers.AskKind.{AskKind as AskKindValue};
 ghost use Rattle.up_span.specs.Pages.{within};

@@ -1,5 +1,5 @@
 //! The tickets that wait, in order, and what becomes of them.
-ghost use Rattle.std.specs.Prelude.{◌≡◌, [], ◌≤◌, length, map, slice_get, vec_len, IfOk};
+ghost use Rattle.std.specs.Prelude.{◌≡◌, ◌≤◌, map, slice_get, vec_len, IfOk};
 ghost use Rattle.std.specs.Vec.{vec_capacity};
 ghost use Rattle.up_asks.specs.Asking.{all_detached, events_of, fixed_among, ticket_after};
 ghost use Rattle.up_asks.specs.Keeps.{waiting_among, waits, is_fixed, still_waiting, fixed_of, settled, put_after};

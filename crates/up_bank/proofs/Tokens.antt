@@ -1,17 +1,17 @@
 -- Two frames' seats are shown to be of different frames by a token: one lends it, the other takes it and gives it back.
-use Rattle.std.proofs.Common.{◌≡◌, ◌≢◌, ℕ, suc, ◌+◌, ◌<◌, ◌⊎◌, Bool, true, false, List, [], ◌∷◌, ◌++◌, length, get_or, set, sym, refl, ap, ◌∙◌, subst, ⊎_elim, arith, length-set, append-nil}
+use Rattle.std.proofs.Common.{◌≡◌, ◌≢◌, ℕ, suc, ◌<◌, Bool, true, false, List, [], ◌∷◌, ◌++◌, length, get_or, set, sym, refl, ap, ◌∙◌, subst, ⊎_elim, arith, length-set, append-nil}
 use mathlib.Core.Logic.{dite}
 use mathlib.Core.Option.{none, some, some-injective}
 use native.Mathlib.Decide.{ℕ_discrete}
 use lib.ListN.{get_elem?}
 use lib.Seq.{set-get_or}
 use Rattle.atomic_table.specs.Table.{step, keeps, Allows, Splits, Joins}
-use Rattle.atomic_table.proofs.Lists.{at_set, set_here, set_else, set_again, at_longer, at_last}
+use Rattle.atomic_table.proofs.Lists.{at_set, set_here, set_else, set_again, at_longer}
 use Rattle.up_bank.specs.Bytes.{Given, Extends}
 use Rattle.up_bank.specs.Banked.{Vault, home_bit, Has, Alone, Met, Lent, Banked}
-use Rattle.up_bank.specs.Plays.{Sat, settled, told_apart, lends, token_of, lent_out, shown, hidden, taken_back, repaid, spent}
+use Rattle.up_bank.specs.Plays.{Sat, settled, told_apart, lends, lent_out, shown, hidden, taken_back, repaid, spent}
 use Rattle.up_bank.specs.declared.view.View.{View}
-use Rattle.up_bank.proofs.Lists.{within, put, put_here, put_else, at_end, extends_none}
+use Rattle.up_bank.proofs.Lists.{within, put, put_here, put_else, at_end}
 use Rattle.up_bank.proofs.Moves.{token_stays}
 use Rattle.up_bank.proofs.Views.{none_met, was_there}
 

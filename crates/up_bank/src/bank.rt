@@ -1,4 +1,4 @@
-ghost use Rattle.std.specs.Prelude.{◌≡◌, ◌≢◌, ◌+◌, ◌<◌, ◌≤◌, [], ◌∷◌, true, false, length, replicate, slice_index, slice_set, sum, IsTrue, IfOk, IfErr, Some};
+ghost use Rattle.std.specs.Prelude.{◌≡◌, ◌≢◌, ◌+◌, ◌<◌, ◌≤◌, [], ◌∷◌, true, false, length, slice_index, slice_set, sum, IsTrue, IfOk, IfErr, Some};
 ghost use Rattle.up_bank.specs.Bytes.{Extends, Brings, bytes_of, longer};
 ghost use Rattle.up_bank.specs.Find.{FoundHome, FoundOut, NoneTwice, Scanned, Counted, words_of};
 ghost use Rattle.up_bank.specs.Standing.{first_seat, second_seat, frames_of, most_frames};

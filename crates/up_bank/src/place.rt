@@ -1,7 +1,6 @@
 //! The steps of a bank's calls on its table, by seats of the table.
-ghost use Rattle.std.specs.Prelude.{◌≡◌, ◌≢◌, ℕ, ◌∷◌, ◌+◌, ◌-◌, ◌*◌, ◌/◌, ◌%◌, ◌<◌, ◌≤◌, ◌^◌, [], length, replicate, slice_index, min, suc, MatchOption, IfOk, Some, IsTrue, false};
+ghost use Rattle.std.specs.Prelude.{◌≡◌, ◌≢◌, ℕ, ◌∷◌, ◌+◌, ◌-◌, ◌*◌, ◌/◌, ◌%◌, ◌<◌, ◌≤◌, ◌^◌, [], length, replicate, slice_index, min, suc, MatchOption, IfOk, Some, false};
 ghost use Rattle.std.specs.Int.{bit_at};
-ghost use Rattle.atomic_table.specs.declared.shared.Seat.{Seat};
 ghost use Rattle.up_bank.specs.Bytes.{zero_bytes, Extends};
 ghost use Rattle.up_bank.specs.Banked.{newcomer};
 ghost use Rattle.up_bank.specs.Find.{words_of, bits_set};

@@ -1,5 +1,5 @@
 -- A set after the pages of a range are added or taken out.
-use Rattle.std.proofs.Common.{◌≡◌, ℕ, ◌+◌, ◌-◌, ◌^◌, ◌<◌, ◌≤◌, ◌&&◌, ◌||◌, ◌++◌, not, min, max, Bool, true, false, leb, ltb, Option, Some, None, List, [], ◌∷◌, take, drop, length, slice_get, zero, suc, refl, sym, ap, ◌∙◌, subst, ⊎_elim, arith}
+use Rattle.std.proofs.Common.{◌≡◌, ℕ, ◌+◌, ◌-◌, ◌^◌, ◌<◌, ◌≤◌, ◌&&◌, ◌||◌, ◌++◌, not, max, Bool, true, false, leb, ltb, Option, Some, None, List, [], ◌∷◌, take, drop, length, slice_get, zero, suc, refl, sym, ap, ◌∙◌, subst, ⊎_elim, arith}
 use Rattle.std.proofs.lemmas.Bool.{cases_lt}
 use Rattle.std.proofs.lemmas.Bool.Decides.{nat_tests}
 use Rattle.up_span.specs.Pages.{within}
@@ -8,7 +8,7 @@ use Rattle.up_span.specs.Sets.{holds, Apart, AreSpans, end_of}
 use Rattle.up_span.specs.Parts.{start_in, stop_in, before_place}
 use Rattle.up_span.specs.declared.run.Run.{Run}
 use Rattle.up_span.proofs.Apart.{none_before, apart_lower, holds_closed}
-use Rattle.up_span.proofs.Places.{end_append, apart_before, apart_after, apart_join, end_grows, holds_append, none_after, split_get, take_get, drop_none, some_within, apart_take, apart_drop, end_split, holds_split, end_take, apart_at, run_fits}
+use Rattle.up_span.proofs.Places.{end_append, apart_join, end_grows, holds_append, none_after, split_get, take_get, drop_none, some_within, apart_take, apart_drop, end_split, holds_split, end_take, apart_at, run_fits}
 
 -- where a range and the runs around it lie: `low` runs end before it, and those from `high` on begin after it; the runs between
 -- and the range lie between `start` and `stop`

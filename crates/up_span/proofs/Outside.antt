@@ -7,7 +7,7 @@ use Rattle.up_span.specs.Runs.{closed, runs}
 use Rattle.up_span.specs.Sets.{holds, Apart, end_of}
 use Rattle.up_span.specs.declared.run.Run.{Run}
 use Rattle.up_span.proofs.Apart.{apart_lower, all_apart, all_hold, same_runs, hold_closed}
-use Rattle.up_span.proofs.Places.{end_append, apart_join, holds_append, split_get, end_take, apart_at, apart_drop, held_at, held_none, some_within}
+use Rattle.up_span.proofs.Places.{end_append, apart_join, holds_append, split_get, end_take, apart_at, held_at, held_none, some_within}
 
 -- how far the gaps are found: those before page `next`, where the runs before the place end
 pub record GapsTo (xs : List Run) (first end place next : ℕ) (outside : List Run) : Type 0 where

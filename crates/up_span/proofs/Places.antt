@@ -1,5 +1,5 @@
 -- Runs that lie apart, at a place of their list: what stands before it and what from it on.
-use Rattle.std.proofs.Common.{◌≡◌, ℕ, ◌+◌, ◌-◌, ◌^◌, ◌<◌, ◌≤◌, ◌&&◌, ◌||◌, ◌++◌, Bool, true, false, leb, get_or, Option, Some, None, List, [], ◌∷◌, take, drop, length, slice_get, zero, suc, refl, sym, ap, ◌∙◌, subst, ⊎_elim, arith}
+use Rattle.std.proofs.Common.{◌≡◌, ℕ, ◌+◌, ◌^◌, ◌<◌, ◌≤◌, ◌||◌, ◌++◌, Bool, true, false, leb, get_or, Some, None, List, [], ◌∷◌, take, drop, length, slice_get, zero, suc, refl, sym, ap, ◌∙◌, subst, ⊎_elim, arith}
 use Rattle.std.proofs.lemmas.Bool.{cases_lt}
 use Rattle.std.proofs.lemmas.Bool.Decides.{nat_tests}
 use Rattle.std.proofs.lemmas.List.{take-append-drop, take-take, take_all, take_more, drop_more}
@@ -7,7 +7,7 @@ use Rattle.std.proofs.lemmas.Option.{none-some, slice_get_within, slice_get-get_
 use Rattle.up_span.specs.Pages.{within}
 use Rattle.up_span.specs.Sets.{holds, Apart, AreSpans, end_of, IsFirstRun}
 use Rattle.up_span.specs.declared.run.Run.{Run}
-use Rattle.up_span.proofs.Apart.{none_before, apart_lower}
+use Rattle.up_span.proofs.Apart.{none_before}
 
 pub end_append : (from : ℕ) (xs ys : List Run) → end_of from (xs ++ ys) ≡ end_of (end_of from xs) ys
 end_append from [] ys = refl

@@ -1,5 +1,5 @@
 //! Where a page stands among runs that lie apart.
-ghost use Rattle.std.specs.Prelude.{◌≡◌, ◌+◌, ◌<◌, ◌≤◌, ◌^◌, ◌||◌, max, min, length, slice_get, take, drop, Some};
+ghost use Rattle.std.specs.Prelude.{◌≡◌, ◌+◌, ◌<◌, ◌≤◌, max, min, length, slice_get, take, drop, Some};
 ghost use Rattle.up_span.specs.Sets.{Apart, AreSpans, end_of};
 ghost use Rattle.up_span.specs.Parts.{start_in, stop_in, before_place};
 ghost use Rattle.up_span.specs.declared.run.Run.{Run as RunValue};

@@ -1,16 +1,14 @@
 -- A turn's beginning and its end.
-use Rattle.std.proofs.Common.{◌≡◌, ◌≢◌, ℕ, zero, suc, ◌+◌, ◌*◌, ◌<◌, ◌≤◌, ◌⊎◌, Bool, true, false, cond, eqb, List, [], ◌∷◌, ◌++◌, length, sym, refl, ap, ◌∙◌, subst, inl, inr, ⊎_elim, arith, eq-eqb, ne_eqb, eqb-true, true≢false, Option, Some, IsPermutation, IsSome, rules, length-append}
+use Rattle.std.proofs.Common.{◌≡◌, ◌≢◌, ℕ, zero, suc, ◌+◌, ◌<◌, ◌≤◌, true, false, List, [], ◌∷◌, ◌++◌, length, sym, refl, ap, ◌∙◌, subst, ⊎_elim, arith, true≢false, Option, Some, IsPermutation, IsSome, rules, length-append}
 use Rattle.std.proofs.lemmas.List.Sorted.{length_permutation, IsPermutation-refl, IsPermutation-sym, IsPermutation-cons, IsPermutation-trans, IsPermutation-middle}
-use mathlib.Core.Option as maybe
 use mathlib.Core.Option.{some, some-injective, some-ne-none}
 use mathlib.Core.Logic.{dite}
 use native.Mathlib.Decide.{ℕ_discrete, dec_lt}
 use lib.ListN.{get_elem?}
 use Rattle.atomic_table.specs.Table.{State, opening, Final, Seen}
 use Rattle.up_model.specs.declared.entry.Entry.{Entry}
-use Rattle.up_turn.specs.Placing.{Placed, placed, by, has, below, Begins, Tally}
-use Rattle.up_turn.specs.Standing.{Counts}
-use Rattle.up_turn.specs.Turned.{Mine, IsInside, Fits, IsHome, IsHolder, Turned, newcomer}
+use Rattle.up_turn.specs.Placing.{Placed, placed, by, has}
+use Rattle.up_turn.specs.Turned.{Fits, Turned, newcomer}
 use Rattle.up_turn.specs.declared.view.View.{View}
 use Rattle.up_turn.proofs.Placings.{two, not_both, by_append, by_skip, by_take, below_has, begins_none, none_before, nobody_more}
 use Rattle.up_turn.proofs.Views.{none_found, none_falls}

@@ -1,21 +1,20 @@
 -- The load, the compare-exchange and the swap keep the rule of a turn's table.
-use Rattle.std.proofs.Common.{◌≡◌, ◌≢◌, ℕ, zero, suc, ◌+◌, ◌*◌, ◌/◌, ◌%◌, ◌<◌, ◌≤◌, Bool, true, false, eqb, List, [], ◌∷◌, ◌++◌, length, drop, get_or, set, sym, refl, ap, ◌∙◌, subst, ⊎_elim, arith, length-set, Option, Some, None, unwrap_or, true≢false, cond, inl, inr, eq-eqb, MatchOption, ap₂}
-use mathlib.Core.Option as maybe
+use Rattle.std.proofs.Common.{◌≡◌, ◌≢◌, ℕ, zero, suc, ◌+◌, ◌*◌, ◌/◌, ◌%◌, ◌<◌, Bool, true, false, eqb, List, [], ◌∷◌, ◌++◌, length, get_or, set, sym, refl, ap, ◌∙◌, subst, ⊎_elim, arith, length-set, Option, Some, None, unwrap_or, cond, inl, inr, eq-eqb, MatchOption, ap₂}
 use mathlib.Core.Option.{none, some, some-injective, some-ne-none}
 use mathlib.Core.Logic.{dite}
 use native.Mathlib.Decide.{ℕ_discrete}
 use prog.Atomic.{either}
 use lib.ListN.{get_elem?}
-use Rattle.atomic_table.specs.Table.{State, Me, Act, step, keeps, takes, gives, stepped, carried_after, homes_after, Valid, Allows, rest}
+use Rattle.atomic_table.specs.Table.{State, Me, Act, step, keeps, takes, gives, stepped, carried_after, Valid, Allows, rest}
 use Rattle.atomic_table.proofs.Lists.{at_set, set_here, set_else, exchanged}
 use Rattle.up_model.specs.declared.entry.Entry.{Entry}
-use Rattle.up_turn.specs.Placing.{placed, by, has, Begins, Tally}
+use Rattle.up_turn.specs.Placing.{has, Begins, Tally}
 use Rattle.up_turn.specs.Standing.{Counts, GoesOn}
-use Rattle.up_turn.specs.Turned.{Mine, IsInside, Fits, IsHome, IsHolder, Turned}
-use Rattle.up_turn.specs.Plays.{found, came_in, gone_out, Counted, Settled, fronted, settled, Entered, entered, left, InHand}
+use Rattle.up_turn.specs.Turned.{Fits, IsHome, Turned}
+use Rattle.up_turn.specs.Plays.{found, came_in, gone_out, Counted, fronted, settled, Entered, entered, left, InHand}
 use Rattle.up_turn.specs.declared.view.View.{View}
 use Rattle.up_turn.proofs.Placings.{begins_same, has_append}
-use Rattle.up_turn.proofs.Views.{others_fit, whole_tally, counted, found_fits, came_fits, out_later, quiet_out, out_tally, gone_fits, apart_out, known_out, all_seen}
+use Rattle.up_turn.proofs.Views.{others_fit, whole_tally, counted, found_fits, came_fits, out_later, quiet_out, out_tally, gone_fits, apart_out, known_out}
 
 -- an index at which something stands is below the length
 pub within : {A : Type 0} (l : List A) (j : ℕ) (a : A) → get_elem? l j ≡ some a → j < length l

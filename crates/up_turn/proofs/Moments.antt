@@ -1,15 +1,13 @@
 -- The laws over the rule of a turn's table.
-use Rattle.std.proofs.Common.{◌≡◌, ℕ, ◌+◌, ◌*◌, ◌/◌, ◌%◌, ◌≤◌, ◌⊎◌, true, List, [], ◌∷◌, ◌++◌, length, get_or, sym, refl, ap, ◌∙◌, subst, inl, inr, ⊎_elim, arith, Option, Some}
-use mathlib.Core.Option as maybe
-use mathlib.Core.Option.{some, some-injective}
+use Rattle.std.proofs.Common.{◌≡◌, ℕ, ◌+◌, ◌*◌, ◌≤◌, ◌⊎◌, List, length, get_or, sym, ap, ◌∙◌, inl, inr, arith, Option, Some}
+use mathlib.Core.Option.{some}
 use mathlib.Core.Logic.{dite}
 use native.Mathlib.Decide.{dec_le}
 use lib.ListN.{get_elem?}
 use Rattle.atomic_table.specs.Table.{State}
 use Rattle.up_model.specs.declared.entry.Entry.{Entry}
-use Rattle.up_turn.specs.Placing.{has, Begins}
-use Rattle.up_turn.specs.Turned.{IsHome, Turned}
-use Rattle.up_turn.specs.Laws.{Rule, NumbersApart, EntriesAreOwn, IsOneHistory, OneHistory}
+use Rattle.up_turn.specs.Placing.{Begins}
+use Rattle.up_turn.specs.Laws.{Rule, NumbersApart, EntriesAreOwn, OneHistory}
 use Rattle.up_turn.specs.declared.view.View.{View}
 use Rattle.up_turn.proofs.Placings.{one_begins}
 

@@ -1,15 +1,15 @@
 -- A seat that gives a number to a new one, and a seat that takes in another, keep the rule of a turn's table.
-use Rattle.std.proofs.Common.{◌≡◌, ◌≢◌, ℕ, zero, suc, ◌<◌, ◌≤◌, ◌⊎◌, Bool, true, false, cond, eqb, List, [], ◌∷◌, ◌++◌, length, set, sym, refl, ap, ◌∙◌, subst, inl, inr, ⊎_elim, arith, length-set, append-nil, eq-eqb, ne_eqb, true≢false, Option}
+use Rattle.std.proofs.Common.{◌≡◌, ◌≢◌, ℕ, zero, suc, ◌<◌, ◌⊎◌, Bool, true, false, cond, eqb, List, [], ◌∷◌, ◌++◌, length, set, sym, refl, ap, ◌∙◌, subst, inl, inr, ⊎_elim, arith, length-set, append-nil, eq-eqb, ne_eqb, true≢false, Option}
 use mathlib.Core.Option.{some, some-injective, some-ne-none}
 use mathlib.Core.Logic.{dite}
 use native.Mathlib.Decide.{ℕ_discrete}
 use lib.ListN.{get_elem?}
 use Rattle.atomic_table.specs.Table.{State, Splits, Joins}
-use Rattle.atomic_table.proofs.Lists.{at_set, set_here, set_else, at_longer, at_last}
+use Rattle.atomic_table.proofs.Lists.{at_set, set_here, set_else, at_longer}
 use Rattle.up_model.specs.declared.entry.Entry.{Entry}
-use Rattle.up_turn.specs.Placing.{Placed, placed, by, has, without, Begins, longer, Tally}
+use Rattle.up_turn.specs.Placing.{Placed, placed, by, has, without}
 use Rattle.up_turn.specs.Standing.{Counts}
-use Rattle.up_turn.specs.Turned.{Mine, IsInside, Fits, IsHolder, Turned}
+use Rattle.up_turn.specs.Turned.{Fits, Turned}
 use Rattle.up_turn.specs.Plays.{lacks, only, united, spent}
 use Rattle.up_turn.specs.declared.view.View.{View}
 use Rattle.up_turn.proofs.Placings.{two, not_both, by_append, begins_same, begins_none, begins_long, between, IsLonger, longer_of, longer_first, has_append, without_it, without_other}

@@ -1,11 +1,11 @@
 -- Placed entries, numbers of actors, and lists of which one begins the other.
-use Rattle.std.proofs.Common.{◌≡◌, ◌≢◌, ℕ, zero, suc, ◌+◌, ◌<◌, ◌≤◌, ◌⊎◌, Bool, true, false, cond, eqb, ltb, List, [], ◌∷◌, ◌++◌, length, take, drop, sym, refl, ap, ◌∙◌, subst, inl, inr, ⊎_elim, arith, append_assoc, append-nil, length-append, eq-eqb, ne_eqb, eqb-true, true≢false, true-eqb}
+use Rattle.std.proofs.Common.{◌≡◌, ◌≢◌, ℕ, zero, suc, ◌+◌, ◌<◌, ◌≤◌, ◌⊎◌, Bool, true, false, cond, eqb, List, [], ◌∷◌, ◌++◌, length, drop, sym, refl, ap, ◌∙◌, subst, inl, inr, arith, append_assoc, append-nil, length-append, eq-eqb, ne_eqb, eqb-true, true≢false}
 use Rattle.std.proofs.Math.Seq.{drop-append_seam}
 use Rattle.std.proofs.lemmas.Bool.{lt-ltb, le-ltb}
 use mathlib.Core.Logic.{dite}
 use native.Mathlib.Decide.{ℕ_discrete, dec_lt}
 use Rattle.up_model.specs.declared.entry.Entry.{Entry}
-use Rattle.up_turn.specs.Placing.{Placed, placed, by, has, below, without, Begins, ByThese, longer, Tally}
+use Rattle.up_turn.specs.Placing.{Placed, placed, by, has, below, without, Begins, ByThese, longer}
 
 pub two : (b : Bool) → (b ≡ true) ⊎ (b ≡ false)
 two true = inl refl

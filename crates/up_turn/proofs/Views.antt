@@ -1,20 +1,16 @@
 -- What the rule says of one seat's view, before a step and after it.
-use Rattle.std.proofs.Common.{◌≡◌, ◌≢◌, ℕ, zero, suc, ◌+◌, ◌-◌, ◌*◌, ◌/◌, ◌<◌, ◌≤◌, ◌⊎◌, Bool, true, false, cond, eqb, List, [], ◌∷◌, ◌++◌, length, drop, set, sym, refl, ap, ◌∙◌, subst, inl, inr, ⊎_elim, arith, eq-eqb, ne_eqb, eqb-true, true≢false, append-nil}
+use Rattle.std.proofs.Common.{◌≡◌, ◌≢◌, ℕ, ◌-◌, ◌≤◌, true, false, List, [], ◌++◌, length, drop, sym, refl, ap, ◌∙◌, ⊎_elim, arith, true≢false, append-nil}
 use Rattle.std.specs.List.{All}
 use Rattle.std.specs.List.Sorted.{IsNonDecreasing}
 use Rattle.std.proofs.lemmas.List.Elements.{All-push, All-weaker}
 use Rattle.std.proofs.lemmas.List.Sorted.{IsNonDecreasingBy-push}
-use mathlib.Core.Logic.{dite}
-use mathlib.Core.Option.{some, some-injective, some-ne-none}
-use native.Mathlib.Decide.{ℕ_discrete}
-use lib.ListN.{get_elem?}
 use Rattle.up_model.specs.declared.entry.Entry.{Entry}
-use Rattle.up_turn.specs.Placing.{Placed, placed, by, has, without, Begins, ByThese, longer, Tally}
+use Rattle.up_turn.specs.Placing.{Placed, placed, by, has, Begins, Tally}
 use Rattle.up_turn.specs.Standing.{Counts, GoesOn}
-use Rattle.up_turn.specs.Turned.{Mine, IsInside, Fits}
-use Rattle.up_turn.specs.Plays.{found, came_in, gone_out, lacks, only, united, spent, Counted}
+use Rattle.up_turn.specs.Turned.{IsInside, Fits}
+use Rattle.up_turn.specs.Plays.{found, came_in, gone_out, spent, Counted}
 use Rattle.up_turn.specs.declared.view.View.{View}
-use Rattle.up_turn.proofs.Placings.{two, not_both, by_append, by_more, by_none, begins_same, begins_none, begins_then, begins_long, between, IsLonger, longer_of, longer_first, has_append, without_it, without_other, drop_new}
+use Rattle.up_turn.proofs.Placings.{two, by_append, by_more, by_none, begins_same, begins_none, begins_then, begins_long, drop_new}
 
 -- what a step leaves true of the view of a seat that doesn't step
 pub others_fit : (log log' : List Entry) (held held' holder holder' root root' actors : ℕ) (owner owner' : ℕ → ℕ) (j : ℕ) (u : View) → Begins log log'

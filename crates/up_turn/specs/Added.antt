@@ -1,7 +1,7 @@
 -- What a call on a sheet makes of a pass, and whose its entries are.
 use Rattle.std.specs.Prelude.{◌≡◌, ◌++◌, ◌∷◌, [], ℕ, List, false, length, map}
 use Rattle.up_model.specs.declared.entry.Entry.{Entry}
-use Rattle.up_turn.specs.Placing.{Placed, placed, by, Begins}
+use Rattle.up_turn.specs.Placing.{placed, by, Begins}
 use Rattle.up_turn.specs.Standing.{Standing}
 
 -- an outside pass of the same turn, with the same numbers

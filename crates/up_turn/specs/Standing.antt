@@ -1,9 +1,9 @@
 -- What contracts see of a turn and its passes.
-use Rattle.std.specs.Prelude.{◌≡◌, ◌⊎◌, ℕ, ◌+◌, ◌<◌, Bool, true, false, List, [], ◌∷◌, ◌++◌, length, drop, refl, if◌then◌else◌}
+use Rattle.std.specs.Prelude.{◌≡◌, ◌⊎◌, ℕ, ◌<◌, Bool, true, false, List, [], ◌∷◌, ◌++◌, length, drop, refl, if◌then◌else◌}
 use Rattle.std.specs.Coded.{Coded, code_by, coded×, coded_ℕ}
 use Rattle.atomic_table.specs.Seated.{TableId, table_id_coded}
 use Rattle.up_model.specs.declared.entry.Entry.{Entry}
-use Rattle.up_turn.specs.Placing.{Placed, placed, has, below, without, Begins, ByThese, longer}
+use Rattle.up_turn.specs.Placing.{Placed, placed, has, below, ByThese, longer}
 
 -- which turn it is, the value that it was made with, and for how many actors
 pub record TurnId (S : Type 0) : Type 0 where

@@ -1,5 +1,5 @@
 -- The rule of a turn's table: one word, twice the count of entries and 1 more while a pass is inside, and one slot, which has the value while none is.
-use Rattle.std.specs.Prelude.{◌≡◌, ℕ, ◌+◌, ◌*◌, ◌<◌, ◌≤◌, Bool, true, false, List, [], ◌∷◌, length, Option, Some, All}
+use Rattle.std.specs.Prelude.{◌≡◌, ℕ, ◌+◌, ◌*◌, ◌<◌, ◌≤◌, true, false, List, [], ◌∷◌, length, Option, Some, All}
 use Rattle.std.specs.List.Sorted.{IsNonDecreasing}
 use mathlib.Core.Option as maybe
 use mathlib.Core.Option.{some}

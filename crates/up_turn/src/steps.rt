@@ -1,5 +1,5 @@
 //! The steps of a turn's calls on its table, by seats of the table.
-ghost use Rattle.std.specs.Prelude.{◌≡◌, ℕ, ◌+◌, ◌%◌, ◌/◌, ◌<◌, ◌++◌, ◌∷◌, [], true, false, length, IfOk, IfErr, MatchOption, IsPermutation, None};
+ghost use Rattle.std.specs.Prelude.{◌≡◌, ℕ, ◌+◌, ◌%◌, ◌/◌, ◌<◌, ◌∷◌, [], true, false, IfOk, IfErr, MatchOption, IsPermutation, None};
 ghost use Rattle.up_turn.specs.Placing.{placed, by, has, without, Begins, Tally};
 ghost use Rattle.up_turn.specs.Standing.{Counts, GoesOn};
 ghost use Rattle.up_turn.specs.Turned.{newcomer};

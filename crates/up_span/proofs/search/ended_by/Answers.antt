@@ -1,4 +1,4 @@
-use Rattle.std.proofs.Common.{◌≡◌, ◌+◌, ◌-◌, ◌/◌, ◌≤◌, take, arith}
+use Rattle.std.proofs.Common.{◌+◌, ◌-◌, ◌/◌, ◌≤◌, take, arith}
 use Rattle.up_span.specs.Sets.{end_of}
 use Rattle.up_span.proofs.Places.{some_within, end_take}
 use Rattle.up_span.proofs.search.ended_by.Goals as goal

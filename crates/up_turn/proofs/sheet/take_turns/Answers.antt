@@ -1,4 +1,4 @@
-use Rattle.std.proofs.Common.{◌≡◌, [], rules, ap, ◌∙◌}
+use Rattle.std.proofs.Common.{◌≡◌, [], rules, ap}
 use Rattle.up_turn.proofs.Ends.{two_entries}
 use Rattle.up_turn.proofs.sheet.take_turns.Goals as goal
 

@@ -1,6 +1,6 @@
-use Rattle.std.proofs.Common.{◌≡◌, ◌+◌, ◌-◌, ◌<◌, ◌≤◌, ◌^◌, ◌&&◌, ◌||◌, ℕ, not, Some, length, drop, take, slice_get, sym, ap, ◌∙◌, subst, arith}
+use Rattle.std.proofs.Common.{◌+◌, ◌≤◌, ◌||◌, take, ap, ◌∙◌, arith}
 use Rattle.up_span.specs.Pages.{within}
-use Rattle.up_span.specs.Sets.{holds, Apart, AreSpans, end_of, PageSet}
+use Rattle.up_span.specs.Sets.{holds, end_of, PageSet}
 use Rattle.up_span.proofs.Places.{in_order}
 use Rattle.up_span.proofs.Changes.{add_list}
 use Rattle.up_span.proofs.spans.Spans.add_reserved.Goals as goal

@@ -1,4 +1,4 @@
-use Rattle.std.proofs.Common.{◌≡◌, ◌∙◌, slice_get, ap, sym, subst}
+use Rattle.std.proofs.Common.{◌∙◌, slice_get, ap, sym, subst}
 use Rattle.up_span.specs.Sets.{Apart, PageSet}
 use Rattle.up_span.proofs.Places.{first_is_least}
 use Rattle.up_span.proofs.spans.Spans.first_run.Goals as goal

@@ -1,6 +1,6 @@
-use Rattle.std.proofs.Common.{◌≡◌, ◌+◌, ◌-◌, ◌<◌, ◌≤◌, ◌^◌, ◌&&◌, ◌||◌, ℕ, not, Some, length, drop, take, slice_get, sym, ap, ◌∙◌, subst, arith}
+use Rattle.std.proofs.Common.{◌+◌, ◌-◌, ◌≤◌, ◌&&◌, not, take, ap, ◌∙◌, arith}
 use Rattle.up_span.specs.Pages.{within}
-use Rattle.up_span.specs.Sets.{holds, Apart, AreSpans, end_of, PageSet}
+use Rattle.up_span.specs.Sets.{holds, end_of, PageSet}
 use Rattle.up_span.proofs.Places.{in_order}
 use Rattle.up_span.proofs.Changes.{remove_list, some_met}
 use Rattle.up_span.proofs.spans.Spans.remove_reserved.Goals as goal

@@ -1,4 +1,4 @@
-use Rattle.std.proofs.Common.{◌≡◌, List, [], ◌∷◌, Option, Some, sym, ap, subst}
+use Rattle.std.proofs.Common.{◌≡◌, List, [], ◌∷◌, Option, sym, ap, subst}
 use Rattle.atomic_table.specs.Table.{opening}
 use Rattle.up_turn.specs.Turned.{Turned, newcomer}
 use Rattle.up_turn.proofs.Ends.{opens}

@@ -1,4 +1,4 @@
-use Rattle.std.proofs.Common.{◌≡◌, ap, ◌∙◌, sym, subst}
+use Rattle.std.proofs.Common.{ap, ◌∙◌, sym, subst}
 use Rattle.up_turn.specs.Standing.{Counts}
 use Rattle.up_turn.specs.declared.view.View.{View}
 use Rattle.up_turn.proofs.Keeps.{joined_counts}

@@ -1,4 +1,4 @@
-use Rattle.std.proofs.Common.{rules, arith}
+use Rattle.std.proofs.Common.{rules}
 use Rattle.up_turn.proofs.Keeps.{looks}
 use Rattle.up_turn.proofs.turn.Turn.look.Goals as goal
 

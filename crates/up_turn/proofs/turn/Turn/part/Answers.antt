@@ -1,4 +1,4 @@
-use Rattle.std.proofs.Common.{◌≡◌, ℕ, [], true, rules, arith, subst, sym}
+use Rattle.std.proofs.Common.{◌≡◌, ℕ, [], true, rules, subst, sym}
 use Rattle.up_turn.specs.Placing.{by, has, without}
 use Rattle.up_turn.specs.Standing.{Counts}
 use Rattle.up_turn.proofs.Passes.{splits}

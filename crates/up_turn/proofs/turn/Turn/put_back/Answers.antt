@@ -1,4 +1,4 @@
-use Rattle.std.proofs.Common.{◌≡◌, ◌*◌, ap, ◌∙◌, sym, rules, arith}
+use Rattle.std.proofs.Common.{◌*◌, ap, ◌∙◌, sym, rules}
 use Rattle.up_turn.proofs.Keeps.{leaves_at}
 use Rattle.up_turn.proofs.turn.Turn.put_back.Goals as goal
 

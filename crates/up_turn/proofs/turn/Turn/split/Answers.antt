@@ -1,4 +1,4 @@
-use Rattle.std.proofs.Common.{◌≡◌, false, ap, ◌∙◌, sym, subst, true≢false}
+use Rattle.std.proofs.Common.{ap, ◌∙◌, sym, subst, true≢false}
 use Rattle.up_turn.specs.Standing.{Counts}
 use Rattle.up_turn.specs.declared.view.View.{View}
 use Rattle.up_turn.proofs.Keeps.{one_counts}

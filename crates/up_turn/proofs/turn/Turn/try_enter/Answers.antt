@@ -1,4 +1,4 @@
-use Rattle.std.proofs.Common.{◌≡◌, ap, ◌∙◌, Some, rules, arith}
+use Rattle.std.proofs.Common.{ap, ◌∙◌, Some, rules}
 use Rattle.up_turn.proofs.Keeps.{enters_at, slot_of, in_hand}
 use Rattle.up_turn.proofs.turn.Turn.try_enter.Goals as goal
 

@@ -1,4 +1,4 @@
-use Rattle.std.proofs.Common.{rules, arith}
+use Rattle.std.proofs.Common.{rules}
 use Rattle.up_turn.proofs.Passes.{joins}
 use Rattle.up_turn.proofs.Keeps.{settles}
 use Rattle.up_turn.proofs.turn.Turn.unite.Goals as goal
