@@ -1,11 +1,11 @@
 pub mod Lists
-pub mod Moves
+pub mod OneFrameMoves
 pub mod Views
-pub mod Steps
+pub mod TableSteps
 pub mod Tokens
 pub mod Sizes
-pub mod Rises
+pub mod RisingFinds
 pub mod Claims
 pub mod Scans
 pub mod Counts
-pub mod Moments
+pub mod ReturnLaws

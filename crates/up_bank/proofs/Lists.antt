@@ -8,7 +8,7 @@ use mathlib.Core.Option.{some, some-injective, some-ne-none}
 use native.Mathlib.Decide.{ℕ_discrete}
 use lib.ListN.{get_elem?}
 use Rattle.up_bank.specs.Bytes.{Given, Extends}
-use Rattle.up_bank.specs.Plays.{mask_of}
+use Rattle.up_bank.specs.SeatSteps.{mask_of}
 use Rattle.up_bank.specs.Banked.{home_bit, empty_bit}
 
 module _ {A : Type 0} where

@@ -9,10 +9,10 @@ use Rattle.atomic_table.specs.Table.{step, keeps, Allows, Splits, Joins}
 use Rattle.atomic_table.proofs.Lists.{at_set, set_here, set_else, set_again, at_longer}
 use Rattle.up_bank.specs.Bytes.{Given, Extends}
 use Rattle.up_bank.specs.Banked.{Vault, home_bit, Has, Alone, Met, Lent, Banked}
-use Rattle.up_bank.specs.Plays.{Sat, settled, told_apart, lends, lent_out, shown, hidden, taken_back, repaid, spent}
+use Rattle.up_bank.specs.SeatSteps.{SeatState, agreed, told_apart, lends, lent_out, shown, hidden, taken_back, repaid, spent}
 use Rattle.up_bank.specs.declared.view.View.{View}
 use Rattle.up_bank.proofs.Lists.{within, put, put_here, put_else, at_end}
-use Rattle.up_bank.proofs.Moves.{token_stays}
+use Rattle.up_bank.proofs.OneFrameMoves.{token_stays}
 use Rattle.up_bank.proofs.Views.{none_met, was_there}
 
 -- a load that leaves the seat as it was
@@ -20,10 +20,10 @@ same_state : (frames id i : ℕ) (v : View) (s : Vault) → Banked frames s → 
 same_state frames id i v s r at = subst (λ (ws : List ℕ). Banked frames record { words = ws; homes = s.homes; views = set s.views id v }) (sym (set-get_or s.words i 0))
     (subst (λ (vs : List View). Banked frames record { words = s.words; homes = s.homes; views = vs }) (sym (set_again s.views id v at)) r)
 
-pub settles : (frames slots id i : ℕ) (me : Sat) → Allows (Banked frames) slots id me i (λ n. n) (settled (step slots i 0 0 none) me)
+pub settles : (frames slots id i : ℕ) (me : SeatState) → Allows (Banked frames) slots id me i (λ n. n) (agreed (step slots i 0 0 none) me)
 settles frames slots id i me s r _ at _ = (me.0, keeps, tt, same_state frames id i me.0 s r at, (refl, r.met id me.0 at))
 
-pub tells : (frames slots id i : ℕ) (me : Sat) → Allows (Banked frames) slots id me i (λ n. n) (told_apart (step slots i 0 0 none) me)
+pub tells : (frames slots id i : ℕ) (me : SeatState) → Allows (Banked frames) slots id me i (λ n. n) (told_apart (step slots i 0 0 none) me)
 tells frames slots id i me s r _ at _ = (me.0, keeps, tt, same_state frames id i me.0 s r at, (refl, λ number is. (r.tokens id me.0 at number is).apart))
 
 -- a seat whose frame, and what it knows of its bank, stay
@@ -329,8 +329,8 @@ repays frames id k v other t has token bare s r at apart there0 = token_join fra
           (at_set (set s.views id (repaid v t)) other j spent u here)
 
 -- both seats are at last as they were
-pub one_same : (m m1 m2 : Sat) (t : View) → m1 ≡ (lends m.0, m.1) → m2 ≡ (repaid m1.0 t, m1.1) → m.0.lent ≡ false → m2 ≡ m
-one_same m m1 m2 t e f kept_it = f ∙ (ap (λ (x : Sat). let y : Sat = (repaid x.0 t, x.1) in y) e ∙ ap (λ (b : Bool). let y : Sat = (record m.0 { lent = b }, m.1) in y) (sym kept_it))
+pub one_same : (m m1 m2 : SeatState) (t : View) → m1 ≡ (lends m.0, m.1) → m2 ≡ (repaid m1.0 t, m1.1) → m.0.lent ≡ false → m2 ≡ m
+one_same m m1 m2 t e f kept_it = f ∙ (ap (λ (x : SeatState). let y : SeatState = (repaid x.0 t, x.1) in y) e ∙ ap (λ (b : Bool). let y : SeatState = (record m.0 { lent = b }, m.1) in y) (sym kept_it))
 
-pub other_same : (m m1 m2 m3 : Sat) (t : View) → m1 ≡ (shown m.0 t, m.1) → m2 ≡ m1 → m3 ≡ (hidden m2.0, m2.1) → m.0.token ≡ 0 → m3 ≡ m
-other_same m m1 m2 m3 t e f g no_one = g ∙ (ap (λ (x : Sat). let y : Sat = (hidden x.0, x.1) in y) (f ∙ e) ∙ ap (λ (n : ℕ). let y : Sat = (record m.0 { token = n }, m.1) in y) (sym no_one))
+pub other_same : (m m1 m2 m3 : SeatState) (t : View) → m1 ≡ (shown m.0 t, m.1) → m2 ≡ m1 → m3 ≡ (hidden m2.0, m2.1) → m.0.token ≡ 0 → m3 ≡ m
+other_same m m1 m2 m3 t e f g no_one = g ∙ (ap (λ (x : SeatState). let y : SeatState = (hidden x.0, x.1) in y) (f ∙ e) ∙ ap (λ (n : ℕ). let y : SeatState = (record m.0 { token = n }, m.1) in y) (sym no_one))

@@ -8,11 +8,11 @@ use lib.ListN.{get_elem?}
 use Rattle.atomic_table.specs.Table.{Splits, Joins}
 use Rattle.atomic_table.proofs.Lists.{at_set, set_here, set_else, at_longer, at_last}
 use Rattle.up_bank.specs.Bytes.{Given, Extends, longer}
-use Rattle.up_bank.specs.Plays.{shed, framed, parted, second, united, merged, spent}
+use Rattle.up_bank.specs.SeatSteps.{shed, framed, parted, second, united, merged, spent}
 use Rattle.up_bank.specs.Banked.{Vault, home_bit, Has, Alone, Met, Lent, Banked}
 use Rattle.up_bank.specs.declared.view.View.{View}
 use Rattle.up_bank.proofs.Lists.{within, at_yes, at_no, at_end, extends_none}
-use Rattle.up_bank.proofs.Moves.{nobody_sole, token_stays, far_lender, no_token}
+use Rattle.up_bank.proofs.OneFrameMoves.{nobody_sole, token_stays, far_lender, no_token}
 
 -- a seat that knows of no return
 pub none_met : {v : View} → v.gives ≡ [] → v.one ≡ [] → v.other ≡ [] → Met v

@@ -2,6 +2,6 @@ pub mod Bytes
 pub mod Find
 pub mod Standing
 pub mod Banked
-pub mod Plays
+pub mod SeatSteps
 pub mod Scan
 pub mod Laws

@@ -4,11 +4,11 @@ use Rattle.std.specs.Int.{bit_at}
 use Rattle.up_bank.specs.Bytes.{Given, bytes_of}
 use Rattle.up_bank.specs.Find.{Find, looks, tries, Rising, HasOut, HasHome, homes_in}
 use Rattle.up_bank.specs.Standing.{BankId, Held, frames_of}
-use Rattle.up_bank.specs.Plays.{Sat, Learns}
+use Rattle.up_bank.specs.SeatSteps.{SeatState, Learns}
 use Rattle.up_bank.specs.declared.view.View.{View}
 
 -- the seat has no frame and no slot, and may step
-pub record Idle (m : Sat) : Type 0 where
+pub record Idle (m : SeatState) : Type 0 where
   pub has : m.0.has ≡ 0
   pub empty : m.0.empty ≡ 0
   pub acts : m.0.rests ≡ false
@@ -35,7 +35,7 @@ pub record Orderly (word words from to : ℕ) (more : List Find) : Type 0 where
   pub fetches : Rising from to (tries more)
 
 -- a claim of the frame, by such finds and with these bytes
-pub record Claimed (v : View) (m' : Sat) (number : ℕ) (bytes : List ℕ) (word words from to : ℕ) : Type 0 where
+pub record Claimed (v : View) (m' : SeatState) (number : ℕ) (bytes : List ℕ) (word words from to : ℕ) : Type 0 where
   pub others : List Find
   pub last : Find
   pub gives : List Given
@@ -47,7 +47,7 @@ pub record Claimed (v : View) (m' : Sat) (number : ℕ) (bytes : List ℕ) (word
   pub is : m' ≡ (claimed v number (others ++ last ∷ []) gives, [])
 
 -- a claim of some frame of the bank
-abbrev pub Got : BankId → View → Sat → ℕ → ℕ → ℕ → ℕ → Held → Type 0
+abbrev pub Got : BankId → View → SeatState → ℕ → ℕ → ℕ → ℕ → Held → Type 0
 Got bank v m' word words from to frame = (frame.bank ≡ bank) × (frame.number < frames_of bank) × Claimed v m' frame.number frame.bytes word words from to
 
 -- how many frames a word of the bitmap has
@@ -63,7 +63,7 @@ abbrev pub with_finds : View → List Find → View
 with_finds v more = record v { finds = v.finds ++ more }
 
 -- such finds that load all these words, and have each of some frames out
-pub record Missed (v : View) (m' : Sat) (word words from to : ℕ) (frames : ℕ → Type 0) : Type 0 where
+pub record Missed (v : View) (m' : SeatState) (word words from to : ℕ) (frames : ℕ → Type 0) : Type 0 where
   pub more : List Find
   pub orderly : Orderly word words from to more
   pub all : word + length (looks more) ≡ words
@@ -71,7 +71,7 @@ pub record Missed (v : View) (m' : Sat) (word words from to : ℕ) (frames : ℕ
   pub is : m' ≡ (with_finds v more, [])
 
 -- a claim as far as some bits of one word: the frames before that bit are out, and so is each whose bit isn't left
-pub record Scanning (v : View) (m' : Sat) (word bit left : ℕ) : Type 0 where
+pub record Scanning (v : View) (m' : SeatState) (word bit left : ℕ) : Type 0 where
   pub more : List Find
   pub orderly : Orderly word (word + 1) (word * 64) (word * 64 + bit) more
   pub one : length (looks more) ≡ 1
@@ -80,7 +80,7 @@ pub record Scanning (v : View) (m' : Sat) (word bit left : ℕ) : Type 0 where
   pub is : m' ≡ (with_finds v more, [])
 
 -- a count as far as some word
-pub record Counting (v : View) (m' : Sat) (frames word count : ℕ) : Type 0 where
+pub record Counting (v : View) (m' : SeatState) (frames word count : ℕ) : Type 0 where
   pub more : List Find
   pub one_each : length more ≡ word
   pub in_order : (i : ℕ) → i < length more → slice_index (map (λ f. f.word) more) i ≡ i

@@ -1,8 +1,8 @@
 ghost use Rattle.std.specs.Prelude.{◌≡◌, ◌+◌, ◌≤◌, length};
 ghost use Rattle.up_bank.specs.Bytes.{written};
 
-use crate::block::Block;
 use crate::kind::FrameKind;
+use crate::page_bytes::PageBytes;
 use crate::rule::Place;
 use std::marker::Model;
 
@@ -11,7 +11,7 @@ pub struct Frame {
     pub(crate) place: Place,
     pub(crate) number: u32,
     pub(crate) kind: FrameKind,
-    pub(crate) block: Block,
+    pub(crate) block: PageBytes,
 }
 
 impl Model for Frame {

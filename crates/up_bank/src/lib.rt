@@ -1,11 +1,12 @@
 //! The frame bank: page frames that many threads claim and give back at once, each frame with one owner.
+//! Used by itself in `up_container_tests`.
 #![tactic(auto)]
 
 mod bank;
-mod block;
 mod frame;
 mod kind;
 pub mod laws;
+mod page_bytes;
 mod place;
 mod rule;
 mod view;

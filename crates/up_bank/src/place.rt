@@ -5,15 +5,15 @@ ghost use Rattle.up_bank.specs.Bytes.{zero_bytes, Extends};
 ghost use Rattle.up_bank.specs.Banked.{newcomer};
 ghost use Rattle.up_bank.specs.Find.{words_of, bits_set};
 ghost use Rattle.up_bank.specs.Standing.{frames_of, most_frames};
-ghost use Rattle.up_bank.specs.Plays.{AsKnown, saw, fetched, merged, Put};
+ghost use Rattle.up_bank.specs.SeatSteps.{AsKnown, saw, fetched, merged, Put};
 ghost use Rattle.up_bank.specs.Scan.{Idle, Rests, Claimed, Got, IsIn, Missed, Counting, frames_in};
 
 use crate::Memory;
 use crate::bank::Bank;
-use crate::block::Block;
 use crate::frame::Frame;
+use crate::page_bytes::PageBytes;
 use crate::rule::{
-    Board, Clear, Hide, Lend, Look, Place, Reclaim, Regain, Repay, Restore, Settle, Shape, Shed,
+    Agree, Board, Clear, Hide, Lend, Look, Place, Reclaim, Regain, Repay, Restore, Shape, Shed,
     Show, Tell, Unite, Vacate,
 };
 use atomic_table::{Refused, Table};
@@ -35,12 +35,12 @@ fn opening_words(alloc: Global, frames: u32) -> Result<Vec<u64>, Memory>
 }
 
 // So many frames' bytes, all zeros.
-fn opening_slots(alloc: Global, frames: u32) -> Result<Vec<Option<Block>>, Memory>
+fn opening_slots(alloc: Global, frames: u32) -> Result<Vec<Option<PageBytes>>, Memory>
     ensures { IfOk result (λ slots. slots.items ≡ replicate frames (Some zero_bytes)) }
 {
     let mut slots = Vec::new(alloc);
     for _ in 0..frames {
-        slots.push(Some(Block::new(alloc)?))?;
+        slots.push(Some(PageBytes::new(alloc)?))?;
     }
     Ok(slots)
 }
@@ -177,7 +177,7 @@ impl Bank {
     }
 
     // Brings a frame home, whose own seat is spent.
-    pub(crate) fn give_at(&self, place: &mut Place, own: Place, number: u32, block: Block)
+    pub(crate) fn give_at(&self, place: &mut Place, own: Place, number: u32, block: PageBytes)
         requires bank { (place.old.table_id ≡ self.now.table) × (own.table_id ≡ self.now.table) }
         requires within { number < self.now.table.slots }
         requires idle { Idle place.old.me }
@@ -210,7 +210,7 @@ impl Bank {
     {
         let _ = &self.shape;
         self.table.shared.join_seat::<Unite>(place, given);
-        self.table.shared.load::<Settle>(place, 1);
+        self.table.shared.load::<Agree>(place, 1);
     }
 
     // Shows two frames' own seats to be of different frames, by a token that goes to and fro. Both seats stay as they were.

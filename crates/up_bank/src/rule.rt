@@ -1,10 +1,10 @@
 //! The rule of a bank's table, and what each kind of step on it tells.
 //! Word 2 i is the part of the bitmap of home frames that has the frames from 64 i on, and word 2 i + 1 the same part
 //! of the bitmap of empty slots. Bits from the number of frames on are left alone.
-ghost use Rattle.up_bank.specs.Plays.{looked, cleared, vacated, reclaimed, restored, shed, framed, parted, second, united, merged, spent, settled, told_apart, lends, lent_out, shown, hidden, taken_back, repaid};
+ghost use Rattle.up_bank.specs.SeatSteps.{looked, cleared, vacated, reclaimed, restored, shed, framed, parted, second, united, merged, spent, agreed, told_apart, lends, lent_out, shown, hidden, taken_back, repaid};
 
-use crate::block::Block;
 use crate::kind::FrameKind;
+use crate::page_bytes::PageBytes;
 use crate::view::View;
 use atomic_table::{Join, Play, Seat, Split, Table, TableRule};
 use std::alloc::Global;
@@ -18,7 +18,7 @@ pub struct Shape {
 
 pub struct Banking;
 
-impl TableRule<Option<Block>, View, Shape> for Banking {
+impl TableRule<Option<PageBytes>, View, Shape> for Banking {
     ghost use Rattle.up_bank.specs.Banked.{Banked, newcomer};
 
     ghost holds = { λ shape. Banked shape.frames };
@@ -26,42 +26,42 @@ impl TableRule<Option<Block>, View, Shape> for Banking {
     ghost first = { λ shape. newcomer shape.frames shape.kind };
 }
 
-pub type Board = Table<Option<Block>, View, Shape, Banking, Global>;
+pub type Board = Table<Option<PageBytes>, View, Shape, Banking, Global>;
 
-pub type Place = Seat<Option<Block>, View>;
+pub type Place = Seat<Option<PageBytes>, View>;
 
 /// A load of a word of the bitmap of home frames.
 pub struct Look;
 
-impl Play<Option<Block>, View> for Look {
+impl Play<Option<PageBytes>, View> for Look {
     ghost then = { looked };
 }
 
 /// A frame is no more at home, and its slot is taken.
 pub struct Clear;
 
-impl Play<Option<Block>, View> for Clear {
+impl Play<Option<PageBytes>, View> for Clear {
     ghost then = { cleared };
 }
 
 /// An empty slot is given back.
 pub struct Vacate;
 
-impl Play<Option<Block>, View> for Vacate {
+impl Play<Option<PageBytes>, View> for Vacate {
     ghost then = { vacated };
 }
 
 /// An empty slot is taken.
 pub struct Reclaim;
 
-impl Play<Option<Block>, View> for Reclaim {
+impl Play<Option<PageBytes>, View> for Reclaim {
     ghost then = { reclaimed };
 }
 
 /// A frame is at home again, and its slot is given back.
 pub struct Restore;
 
-impl Play<Option<Block>, View> for Restore {
+impl Play<Option<PageBytes>, View> for Restore {
     ghost then = { restored };
 }
 
@@ -102,10 +102,10 @@ impl Join<View> for Unite {
 }
 
 /// A load after a join.
-pub struct Settle;
+pub struct Agree;
 
-impl Play<Option<Block>, View> for Settle {
-    ghost then = { settled };
+impl Play<Option<PageBytes>, View> for Agree {
+    ghost then = { agreed };
 }
 
 /// A frame's seat gives out a token of its frame.
@@ -129,7 +129,7 @@ impl Join<View> for Show {
 /// A load with the token in hand.
 pub struct Tell;
 
-impl Play<Option<Block>, View> for Tell {
+impl Play<Option<PageBytes>, View> for Tell {
     ghost then = { told_apart };
 }
 

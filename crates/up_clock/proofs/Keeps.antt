@@ -11,7 +11,7 @@ use lib.ListN.{get_elem?}
 use Rattle.atomic_table.specs.Table.{State, Me, step, keeps, stepped, Allows, Splits, Joins}
 use Rattle.atomic_table.proofs.Lists.{at_set, at_snoc}
 use Rattle.up_clock.specs.Known.{last_age}
-use Rattle.up_clock.specs.Ticks.{Fits, Ticks, Shows, found, answered, older, looked, began, aged, shared, asked, joined, spent}
+use Rattle.up_clock.specs.Ticks.{Fits, Ticks, Shows, found, answered, older, looked, began, aged, shared, new_seat, joined, spent}
 use Rattle.up_clock.specs.declared.view.View.{View}
 
 abbrev S : Type 0
@@ -107,17 +107,17 @@ ages slots id k me brings s r _ at _ = let n : ℕ = shown s in let seats : ℕ 
     (w, keeps, tt, steps s r id (max n k) me w at (omega arith) fits, (refl, shows n seats me.0 f))
 
 -- a second seat keeps company
-pub splits : (id : ℕ) (v : View) → Splits Ticks id v (shared v) (asked v)
+pub splits : (id : ℕ) (v : View) → Splits Ticks id v (shared v) (new_seat v)
 splits id v s r at = let n : ℕ = shown s in let seats : ℕ = length s.views in let f : Fits n seats v = r.each id v at in
-    let views' : List View = set s.views id (shared v) ++ asked v ∷ [] in
+    let views' : List View = set s.views id (shared v) ++ new_seat v ∷ [] in
     let mine : Fits n (length views') (shared v) = record { told = f.told; found = f.found; rising = f.rising; alone = λ (lone : false ≡ true). cc } in
-    let second : Fits n (length views') (asked v) = record { told = f.told; found = λ k d h. absurd (omega arith); rising = λ i j d le h. absurd (omega arith); alone = λ (lone : false ≡ true). cc } in record {
+    let second : Fits n (length views') (new_seat v) = record { told = f.told; found = λ k d h. absurd (omega arith); rising = λ i j d le h. absurd (omega arith); alone = λ (lone : false ≡ true). cc } in record {
       wide = r.wide;
       each = λ j u there. ⊎_elim
           (λ (old : get_elem? (set s.views id (shared v)) j ≡ some u). ⊎_elim (λ (t : (j ≡ id) × (shared v ≡ u)). subst (Fits n (length views')) t.1 mine)
           (λ (t : (j ≢ id) × (get_elem? s.views j ≡ some u)). company n n seats (length views') u (omega arith) (not_alone s r id j v u at t.1 t.0) (r.each j u t.1))
           (at_set s.views id j (shared v) u old))
-          (λ (new : asked v ≡ u). subst (Fits n (length views')) new second) (at_snoc (set s.views id (shared v)) (asked v) u j there);
+          (λ (new : new_seat v ≡ u). subst (Fits n (length views')) new second) (at_snoc (set s.views id (shared v)) (new_seat v) u j there);
     }
 
 joined_there : (s : S) → Ticks s → (id : ℕ) (v : View) (other : ℕ) (w : View) → other ≢ id → get_elem? (set s.views id (joined v w)) other ≡ some w → get_elem? s.views other ≡ some w

@@ -19,8 +19,8 @@ pub record Ticks (s : State (Unit {0}) View) : Type 0 where
   pub wide : length s.words ≡ 1
   pub each : (j : ℕ) (v : View) → get_elem? s.views j ≡ some v → Fits (slice_index s.words 0) (length s.views) v
 
-abbrev Sat : Type 0
-Sat = Me (Unit {0}) View
+abbrev SeatState : Type 0
+SeatState = Me (Unit {0}) View
 
 abbrev Tick : Type 0
 Tick = Step (Unit {0})
@@ -48,15 +48,15 @@ pub record Shows (v : View) (n : ℕ) : Type 0 where
   pub alone : v.sole ≡ true → n ≡ min v.ages last_age
 
 -- the load of `now` answers what it finds
-abbrev pub looked : Tick → Sat → ℕ → Sat → Type 0
+abbrev pub looked : Tick → SeatState → ℕ → SeatState → Type 0
 looked st m n m' = (m' ≡ (answered (found m.0 n) n, m.1)) × Shows m.0 n
 
 -- the load of `age` answers where it finds the clock at its end
-abbrev pub began : Tick → Sat → ℕ → Sat → Type 0
+abbrev pub began : Tick → SeatState → ℕ → SeatState → Type 0
 began st m n m' = (n ≡ last_age → m' ≡ (older (answered (found m.0 n) n), m.1)) × (n ≢ last_age → m' ≡ (found m.0 n, m.1)) × Shows m.0 n
 
 -- the fetch of `age` answers the number that it brings
-abbrev pub aged : Tick → Sat → ℕ → Sat → Type 0
+abbrev pub aged : Tick → SeatState → ℕ → SeatState → Type 0
 aged st m n m' = (m' ≡ (older (answered (found m.0 n) st.first), m.1)) × Shows m.0 n
 
 -- a seat that has company
@@ -64,8 +64,8 @@ abbrev pub shared : View → View
 shared v = record { told = v.told; ages = v.ages; sole = false; finds = v.finds }
 
 -- the seat that was made from it
-abbrev pub asked : View → View
-asked v = record { told = v.told; ages = 0; sole = false; finds = [] }
+abbrev pub new_seat : View → View
+new_seat v = record { told = v.told; ages = 0; sole = false; finds = [] }
 
 -- a seat that took another's place in
 abbrev pub joined : View → View → View

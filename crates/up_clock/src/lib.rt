@@ -1,4 +1,5 @@
 //! The generation clock: a number that many threads read and age at once, which never falls.
+//! Used by itself in `up_container_tests`.
 #![tactic(auto)]
 
 mod clock;

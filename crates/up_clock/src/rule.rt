@@ -1,5 +1,5 @@
 //! The rule of the clock's word, and what each kind of step on it tells.
-ghost use Rattle.up_clock.specs.Ticks.{Ticks, newcomer, looked, began, aged, shared, asked, joined, spent};
+ghost use Rattle.up_clock.specs.Ticks.{Ticks, newcomer, looked, began, aged, shared, new_seat, joined, spent};
 
 use crate::view::View;
 use atomic_table::{Join, Play, Split, TableRule};
@@ -39,7 +39,7 @@ pub(crate) struct Share;
 impl Split<View> for Share {
     ghost left = { shared };
 
-    ghost right = { asked };
+    ghost right = { new_seat };
 }
 
 // A seat is given up.

@@ -5,11 +5,11 @@ use Rattle.std.specs.Str.{bytes_eq}
 use Rattle.std.proofs.lemmas.Slice.Eq.{bytes_eq-Decides}
 use mathlib.Core.Logic.{dite}
 use native.Mathlib.Decide.{ℕ_discrete}
-use Rattle.up_disk.specs.declared.mem.Did.{Did}
+use Rattle.up_disk.specs.declared.mem.DiskCall.{DiskCall}
 use Rattle.up_disk.specs.Left.{LeftIn, Wrote, AddsWritten}
 use Rattle.up_disk.specs.LeftLaws.{blocks_whole, blocks_left}
 use Rattle.up_disk.specs.Platter.{blocks_after, contents_since, IsAmong, LeftNow, with_content, oldest_first, EachOnce}
-use Rattle.up_disk.proofs.Steps.{put_back}
+use Rattle.up_disk.proofs.WritesAndSyncs.{put_back}
 
 -- an item by its place, and with a default
 pub got : (xs : List (List ℕ)) (p : ℕ) (d x : List ℕ) → slice_get xs p ≡ Some x → get_or xs p d ≡ x
@@ -35,7 +35,7 @@ set_is [] p x y at = cc
 set_is (z ∷ zs) zero x y at = cc
 set_is (z ∷ zs) (suc p) x y at = set_is zs p x y at
 
-pub content_left : (start : List (List ℕ)) (done : List Did) (p : ℕ) (content : List ℕ) → p < length start → IsAmong (contents_since start done p) content → LeftIn (LeftNow start done) p content
+pub content_left : (start : List (List ℕ)) (done : List DiskCall) (p : ℕ) (content : List ℕ) → p < length start → IsAmong (contents_since start done p) content → LeftIn (LeftNow start done) p content
 content_left start done p content low among =
     let all : length (blocks_after start done) ≡ length start = blocks_whole start done in (
       set (blocks_after start done) p content,
@@ -43,7 +43,7 @@ content_left start done p content low among =
       set_got (blocks_after start done) p content (omega arith),
     )
 
-pub left_among : (start : List (List ℕ)) (done : List Did) (p : ℕ) (content : List ℕ) → p < length start → LeftIn (LeftNow start done) p content → IsAmong (contents_since start done p) content
+pub left_among : (start : List (List ℕ)) (done : List DiskCall) (p : ℕ) (content : List ℕ) → p < length start → LeftIn (LeftNow start done) p content → IsAmong (contents_since start done p) content
 left_among start done p content low left = subst (IsAmong (contents_since start done p)) (got left.0 p [] content left.2) (left.1.1 p low)
 
 -- a write adds its content alone, a call that adds no image none

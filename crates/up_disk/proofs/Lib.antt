@@ -1,3 +1,3 @@
 pub mod Contents
 pub mod Stands
-pub mod Steps
+pub mod WritesAndSyncs

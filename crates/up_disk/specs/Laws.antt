@@ -1,12 +1,12 @@
 -- The laws over what a stop leaves.
 use Rattle.std.specs.Prelude.{◌≡◌, ℕ, ◌<◌, ◌≤◌, ◌⊎◌, ◌↔◌, Bool, true, List, length}
-use Rattle.up_disk.specs.declared.mem.Did.{Did}
+use Rattle.up_disk.specs.declared.mem.DiskCall.{DiskCall}
 use Rattle.up_disk.specs.Left.{AddsNone, AddsWritten, LeftIn}
 use Rattle.up_disk.specs.Platter.{contents_since, oldest_first, IsAmong, EachOnce, LeftNow}
 
 -- a stop now may leave a content in a block of a disk in memory exactly where the block had it since the last sync
 abbrev pub ContentsMayBeLeft : Type 0
-ContentsMayBeLeft = (start : List (List ℕ)) (done : List Did) (p : ℕ) (content : List ℕ) → p < length start
+ContentsMayBeLeft = (start : List (List ℕ)) (done : List DiskCall) (p : ℕ) (content : List ℕ) → p < length start
     → IsAmong (contents_since start done p) content ↔ LeftIn (LeftNow start done) p content
 
 -- the contents that are told are the same

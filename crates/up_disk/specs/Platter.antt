@@ -3,14 +3,14 @@ use Rattle.std.specs.Prelude.{◌≡◌, ℕ, ◌-◌, ◌<◌, ◌≤◌, ◌�
 use Rattle.std.specs.List.{list_any}
 use Rattle.std.specs.Str.{bytes_eq}
 use Rattle.up_outside.specs.InMemory.{counted, is_listed}
-use Rattle.up_disk.specs.declared.mem.Did.{Did}
-use Rattle.up_disk.specs.declared.mem.Did.TheVariants.{Put, Synced}
+use Rattle.up_disk.specs.declared.mem.DiskCall.{DiskCall}
+use Rattle.up_disk.specs.declared.mem.DiskCall.TheVariants.{Put, Synced}
 
 -- a disk in memory: its blocks at the start, what was done to it since, the newest first, the numbers of the calls that
 -- are to fail, how many calls it has room for, how many it had, how many failed, and after how many writes it stops
 pub record Platter : Type 0 where
   pub start : List (List ℕ)
-  pub done : List Did
+  pub done : List DiskCall
   pub fail : List ℕ
   pub room : ℕ
   pub calls : ℕ
@@ -22,7 +22,7 @@ abbrev pub platter : List (List ℕ) → List ℕ → ℕ → Platter
 platter start fail room = record { start = start; done = []; fail = fail; room = room; calls = 0; faults = 0; until = None }
 
 -- the blocks at the start with all writes put in that didn't fail
-abbrev pub blocks_after : List (List ℕ) → List Did → List (List ℕ)
+abbrev pub blocks_after : List (List ℕ) → List DiskCall → List (List ℕ)
 blocks_after start [] = start
 blocks_after start (Put number block good ∷ before) =
     cond good (slice_set (blocks_after start before) number block) (blocks_after start before)
@@ -33,7 +33,7 @@ abbrev pub blocks_on : Platter → List (List ℕ)
 blocks_on disk = blocks_after disk.start disk.done
 
 -- the contents that block p had since the last sync, that one included and the newest first; a failed write's among them
-abbrev pub contents_since : List (List ℕ) → List Did → ℕ → List (List ℕ)
+abbrev pub contents_since : List (List ℕ) → List DiskCall → ℕ → List (List ℕ)
 contents_since start [] p = get_or start p [] ∷ []
 contents_since start (Put number block good ∷ before) p =
     cond (number == p) (block ∷ contents_since start before p) (contents_since start before p)
@@ -45,12 +45,12 @@ IsAmong [] content = ⊥
 IsAmong (first ∷ rest) content = (content ≡ first) ⊎ IsAmong rest content
 
 -- a stop now may leave any image that has in each block one of its contents
-abbrev pub LeftNow : List (List ℕ) → List Did → List (List ℕ) → Type 0
+abbrev pub LeftNow : List (List ℕ) → List DiskCall → List (List ℕ) → Type 0
 LeftNow start done image = (length image ≡ length start)
     × ((p : ℕ) → p < length start → IsAmong (contents_since start done p) (get_or image p []))
 
 -- a stop at some one moment since this time may leave it; times count what was done
-abbrev pub LeftSince : List (List ℕ) → List Did → ℕ → List (List ℕ) → Type 0
+abbrev pub LeftSince : List (List ℕ) → List DiskCall → ℕ → List (List ℕ) → Type 0
 LeftSince start [] since image = (since ≤ 0) × LeftNow start [] image
 LeftSince start (did ∷ before) since image =
     ((since ≤ length (did ∷ before)) × LeftNow start (did ∷ before) image) ⊎ LeftSince start before since image

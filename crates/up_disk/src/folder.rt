@@ -1,7 +1,5 @@
-ghost use Rattle.std.specs.Prelude.{◌≡◌, ◌<◌, Some, None, length, slice_set, IfOk, OnOk, is_err, if◌then◌else◌};
+ghost use Rattle.std.specs.Prelude.{◌≡◌, ◌<◌, None, IfOk};
 ghost use Rattle.up_disk.specs.Foldered.{foldered};
-ghost use Rattle.up_disk.specs.Shelved.{IfGiven, IfNotGiven, with_last};
-ghost use Rattle.up_outside.specs.Cause.{HasCause};
 
 use crate::noted::{Noted, Place};
 use crate::{Failed, FileDisk, Shelf};
@@ -22,7 +20,6 @@ pub struct FolderShelf<'a, R: Files<File = File>> {
 
 impl<'a, R: Files<File = File>> Model for FolderShelf<'a, R> {
     ghost use Rattle.up_disk.specs.Foldered.{Foldered};
-    ghost use Rattle.up_disk.specs.Filed.{Filed};
 
     ghost Value = { Foldered };
 

@@ -4,7 +4,7 @@ ghost use Rattle.std.specs.Str.{bytes_eq};
 ghost use Rattle.up_disk.specs.Follows.{FollowsContent, FollowsLeft};
 ghost use Rattle.up_disk.specs.Platter.{contents_since, oldest_first, with_content};
 
-use crate::{Block, Blocks, Did};
+use crate::{Block, Blocks, DiskCall};
 use std::alloc::Global;
 use up_num::Memory;
 
@@ -13,7 +13,7 @@ use up_num::Memory;
 pub(crate) fn contents_left(
     alloc: Global,
     start: &Vec<Block>,
-    done: &Vec<Did>,
+    done: &Vec<DiskCall>,
     number: u32,
 ) -> Result<Blocks, Memory>
     requires { number < length start.now.items }
@@ -31,7 +31,7 @@ pub(crate) fn contents_left(
 // What one more thing that was done makes of a block's content and of what may be left in it.
 fn follow(
     alloc: Global,
-    did: &Did,
+    did: &DiskCall,
     number: u32,
     content: &mut Block,
     left: &mut Blocks,
@@ -40,7 +40,7 @@ fn follow(
     ensures left { OnOk result (FollowsLeft did.now number content.old left.old left.new) }
 {
     match did {
-        Did::Put {
+        DiskCall::Put {
             number: put,
             block,
             good,
@@ -52,7 +52,7 @@ fn follow(
                 }
             }
         }
-        Did::Synced => {
+        DiskCall::Synced => {
             *left = Blocks::new(alloc);
             add(alloc, left, content.as_slice())?;
         }

@@ -1,5 +1,6 @@
 //! Disks of blocks of 4,096 bytes: what their calls do, what a stop leaves on them, and three of them; and shelves, where
 //! disks come from.
+//! Used by itself in `up_disk_trials`.
 #![tactic(auto)]
 
 mod block;
@@ -19,7 +20,7 @@ pub use block::{Block, Blocks};
 pub use disk::Disk;
 pub use file::FileDisk;
 pub use folder::FolderShelf;
-pub use mem::{Did, MemDisk};
+pub use mem::{DiskCall, MemDisk};
 pub use mem_shelf::MemShelf;
 pub use plain::PlainDisk;
 pub use shelf::Shelf;

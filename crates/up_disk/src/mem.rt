@@ -1,4 +1,4 @@
-ghost use Rattle.std.specs.Prelude.{◌≡◌, ◌+◌, ◌<◌, ◌%◌, Some, None, [], ◌∷◌, reverse, length, get_or, slice_get, vec_len, vec_capacity, IfOk, OnOk, is_err};
+ghost use Rattle.std.specs.Prelude.{◌≡◌, ◌+◌, ◌<◌, ◌%◌, Some, None, ◌∷◌, reverse, length, slice_get, vec_len, vec_capacity, IfOk, OnOk, is_err};
 ghost use Rattle.up_disk.specs.Splits.{blocks_of};
 ghost use Rattle.up_disk.specs.Platter.{platter, blocks_on, contents_since, oldest_first, fails, has_stopped, one_less, is_over, after_call, after_write, after_sync, left_on};
 ghost use Rattle.up_disk.specs.Left.{OnlyLeaves, AddsNone, AddsWritten};
@@ -14,7 +14,7 @@ use up_outside::Plan;
 
 /// What was done to a disk in memory: a block was written, well or not, or all was synced.
 #[derive(Debug, Drop)]
-pub enum Did {
+pub enum DiskCall {
     Put {
         number: u32,
         block: Block,
@@ -30,7 +30,7 @@ pub struct MemDisk {
     start: Vec<Block>,
     blocks: Vec<Block>,
     spare: Vec<Block>,
-    done: Vec<Did>,
+    done: Vec<DiskCall>,
     plan: Plan,
     room: u32,
     until: Option<u32>,
@@ -225,11 +225,17 @@ fn less(until: Option<u32>) -> Option<u32>
 }
 
 // Notes a write of a block, which takes no memory.
-fn note_write(spare: &mut Vec<Block>, done: &mut Vec<Did>, number: u32, bytes: &[u8], good: bool)
+fn note_write(
+    spare: &mut Vec<Block>,
+    done: &mut Vec<DiskCall>,
+    number: u32,
+    bytes: &[u8],
+    good: bool,
+)
     requires spare { 0 < vec_len spare.old }
     requires reserved { vec_len done.old < vec_capacity done.old }
     requires whole { length bytes.now ≡ 4096 }
-    ensures done { reverse done.new.items ≡ Did.Put number bytes.now good ∷ reverse done.old.items }
+    ensures done { reverse done.new.items ≡ DiskCall.Put number bytes.now good ∷ reverse done.old.items }
     ensures len { vec_len done.new ≡ vec_len done.old + 1 }
     ensures capacity { vec_capacity done.new ≡ vec_capacity done.old }
     ensures spare { vec_len spare.new + 1 ≡ vec_len spare.old }
@@ -238,7 +244,7 @@ fn note_write(spare: &mut Vec<Block>, done: &mut Vec<Did>, number: u32, bytes: &
         unreachable!()
     };
     block.fill(bytes);
-    done.push_reserved(Did::Put {
+    done.push_reserved(DiskCall::Put {
         number,
         block,
         good,
@@ -246,11 +252,11 @@ fn note_write(spare: &mut Vec<Block>, done: &mut Vec<Did>, number: u32, bytes: &
 }
 
 // Notes a sync, which takes no memory.
-fn note_sync(done: &mut Vec<Did>)
+fn note_sync(done: &mut Vec<DiskCall>)
     requires { vec_len done.old < vec_capacity done.old }
-    ensures done { reverse done.new.items ≡ Did.Synced ∷ reverse done.old.items }
+    ensures done { reverse done.new.items ≡ DiskCall.Synced ∷ reverse done.old.items }
     ensures len { vec_len done.new ≡ vec_len done.old + 1 }
     ensures capacity { vec_capacity done.new ≡ vec_capacity done.old }
 {
-    done.push_reserved(Did::Synced);
+    done.push_reserved(DiskCall::Synced);
 }

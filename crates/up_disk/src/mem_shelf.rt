@@ -12,13 +12,13 @@ use up_outside::Plan;
 
 // A disk on the shelf, with its name and its number of blocks.
 #[derive(Drop)]
-struct Held<D: Disk> {
+struct ShelvedDisk<D: Disk> {
     name: Bytes,
     blocks: u32,
     disk: D,
 }
 
-impl<D: Disk> Model for Held<D> {
+impl<D: Disk> Model for ShelvedDisk<D> {
     ghost use Rattle.std.specs.Prelude.{◌≡◌};
     ghost use Rattle.up_disk.specs.Left.{NothingPending};
     ghost use Rattle.up_disk.specs.Shelved.{Stored};
@@ -34,7 +34,7 @@ impl<D: Disk> Model for Held<D> {
 /// A shelf in memory, some calls of which fail. It tells what it holds.
 #[derive(Drop)]
 pub struct MemShelf<D: Disk> {
-    held: Vec<Held<D>>,
+    held: Vec<ShelvedDisk<D>>,
     brought: Vec<Noted<D>>,
     back: Vec<Option<D>>,
     plan: Plan,
@@ -101,7 +101,7 @@ impl<D: Disk> MemShelf<D> {
         if self.held.reserve(1).is_err() {
             return Err((Memory {}, disk));
         }
-        self.held.push_reserved(Held { name, blocks, disk });
+        self.held.push_reserved(ShelvedDisk { name, blocks, disk });
         Ok(())
     }
 
@@ -166,7 +166,7 @@ impl<D: Disk + Send + Drop> Shelf for MemShelf<D> {
 }
 
 // Where the disk of this name stands, if it has so many blocks.
-fn found<D: Disk>(held: &Vec<Held<D>>, name: &[u8], blocks: u32) -> Option<usize>
+fn found<D: Disk>(held: &Vec<ShelvedDisk<D>>, name: &[u8], blocks: u32) -> Option<usize>
     ensures some { is_some result ≡ has_blocks (held_as name.now held.now.items) blocks }
     ensures place { IfSome result (λ place. StandsAt name.now held.now.items place) }
 {
@@ -179,7 +179,7 @@ fn found<D: Disk>(held: &Vec<Held<D>>, name: &[u8], blocks: u32) -> Option<usize
 }
 
 // Where the disk of this name stands.
-fn place_of<D: Disk>(held: &Vec<Held<D>>, name: &[u8]) -> Option<usize>
+fn place_of<D: Disk>(held: &Vec<ShelvedDisk<D>>, name: &[u8]) -> Option<usize>
     ensures { MatchOption result (held_as name.now held.now.items ≡ None) (λ place. StandsAt name.now held.now.items place) }
 {
     for place in 0..held.len() {
@@ -190,14 +190,19 @@ fn place_of<D: Disk>(held: &Vec<Held<D>>, name: &[u8]) -> Option<usize>
     None
 }
 
-fn is_called<D: Disk>(held: &Held<D>, name: &[u8]) -> bool
+fn is_called<D: Disk>(held: &ShelvedDisk<D>, name: &[u8]) -> bool
     ensures { result ≡ is_named name.now held.now }
 {
     held.name.as_slice() == name
 }
 
 // Takes the disk that stands there under this name.
-fn take_out<D: Disk>(held: &mut Vec<Held<D>>, place: usize, name: &[u8], blocks: u32) -> (Bytes, D)
+fn take_out<D: Disk>(
+    held: &mut Vec<ShelvedDisk<D>>,
+    place: usize,
+    name: &[u8],
+    blocks: u32,
+) -> (Bytes, D)
     requires stands { StandsAt name.now held.old.items place }
     requires whole { has_blocks (held_as name.now held.old.items) blocks ≡ true }
     ensures held { held_as name.now held.old.items ≡ Some (stored_as name.now blocks result.1) }
@@ -206,7 +211,7 @@ fn take_out<D: Disk>(held: &mut Vec<Held<D>>, place: usize, name: &[u8], blocks:
     ensures count { D.count result.1 ≡ blocks }
     ensures still { NothingPending D.lasts D.time D.leaves D.blocks result.1 }
 {
-    let Held {
+    let ShelvedDisk {
         name: called,
         disk,
         ..

@@ -1,4 +1,4 @@
-ghost use Rattle.std.specs.Prelude.{◌≡◌, ◌%◌, ◌*◌, ℕ, length, IfOk, replicate};
+ghost use Rattle.std.specs.Prelude.{◌≡◌, ◌%◌, ◌*◌, length, IfOk};
 ghost use Rattle.up_disk.specs.Splits.{blocks_of};
 
 use crate::Block;

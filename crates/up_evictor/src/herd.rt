@@ -1,12 +1,12 @@
 ghost use Rattle.std.specs.Prelude.{◌≡◌, ℕ, ◌<◌, ◌≤◌, ◌∷◌, List, length, IfOk, OnErr};
-ghost use Rattle.up_evictor.specs.Relief.{cull_of};
+ghost use Rattle.up_evictor.specs.Relief.{reclaim_of};
 
 use std::alloc::Global;
 use up_num::{Memory, PageSeq};
 
 /// One object was asked to give up at most `max` pages, all of this age class or older, and gave up so many.
 #[derive(Clone, Copy, PartialEq, Eq, Debug)]
-pub struct Cull {
+pub struct Reclaim {
     pub object: u32,
     pub limit: u32,
     pub max: u32,
@@ -16,7 +16,7 @@ pub struct Cull {
 /// Objects, numbered from 0 on, whose pages can be made absent.
 pub trait Herd {
     ghost use Rattle.std.specs.Prelude.{ℕ, List};
-    ghost use Rattle.up_evictor.specs.declared.herd.Cull.{Cull};
+    ghost use Rattle.up_evictor.specs.declared.herd.Reclaim.{Reclaim};
 
     /// What says what the herd was made with.
     ghost Origin: { Type 0 };
@@ -27,7 +27,7 @@ pub trait Herd {
     ghost size: { Self → ℕ };
 
     /// What was asked for and given so far, newest first.
-    ghost culls: { Self → List Cull };
+    ghost reclaims: { Self → List Reclaim };
 
     fn objects(&self) -> u32
         ensures { result ≡ size self.now };
@@ -36,8 +36,8 @@ pub trait Herd {
     fn evict(&mut self, alloc: Global, object: u32, limit: u32, max: u32) -> Result<PageSeq, Memory>
         requires { object < size self.old }
         ensures bound { IfOk result (λ pages. length pages ≤ max) }
-        ensures ok { IfOk result (λ pages. culls self.new ≡ cull_of object limit max (length pages) ∷ culls self.old) }
-        ensures err { OnErr result (culls self.new ≡ culls self.old) }
+        ensures ok { IfOk result (λ pages. reclaims self.new ≡ reclaim_of object limit max (length pages) ∷ reclaims self.old) }
+        ensures err { OnErr result (reclaims self.new ≡ reclaims self.old) }
         ensures size { size self.new ≡ size self.old }
         ensures origin { origin self.new ≡ origin self.old };
 }

@@ -28,8 +28,8 @@ pub fn relieve<H: Herd>(
     want: u32,
     level: Level,
 ) -> Result<Relief, Memory>
-    ensures ok { IfOk result (λ relief. Relieved want level (H.size herd.old) (H.culls herd.old) (H.culls herd.new) relief) }
-    ensures err { OnErr result (RelievedInPart want level (H.size herd.old) (H.culls herd.old) (H.culls herd.new)) }
+    ensures ok { IfOk result (λ relief. Relieved want level (H.size herd.old) (H.reclaims herd.old) (H.reclaims herd.new) relief) }
+    ensures err { OnErr result (RelievedInPart want level (H.size herd.old) (H.reclaims herd.old) (H.reclaims herd.new)) }
     ensures size { H.size herd.new ≡ H.size herd.old }
     ensures origin { H.origin herd.new ≡ H.origin herd.old }
 {
@@ -42,8 +42,8 @@ pub fn relieve<H: Herd>(
 
 // Makes the passes of a level, and says how many pages are still wanted.
 fn turn<H: Herd>(alloc: Global, herd: &mut H, want: u32, level: Level) -> Result<u32, Memory>
-    ensures ok { IfOk result (λ left. Turned want left level (H.size herd.old) (H.culls herd.old) (H.culls herd.new)) }
-    ensures err { OnErr result (RelievedInPart want level (H.size herd.old) (H.culls herd.old) (H.culls herd.new)) }
+    ensures ok { IfOk result (λ left. Turned want left level (H.size herd.old) (H.reclaims herd.old) (H.reclaims herd.new)) }
+    ensures err { OnErr result (RelievedInPart want level (H.size herd.old) (H.reclaims herd.old) (H.reclaims herd.new)) }
     ensures size { H.size herd.new ≡ H.size herd.old }
     ensures origin { H.origin herd.new ≡ H.origin herd.old }
 {
@@ -59,8 +59,8 @@ fn turn<H: Herd>(alloc: Global, herd: &mut H, want: u32, level: Level) -> Result
 
 // Asks each object in order for what is still wanted, until nothing is, and says how many pages are still wanted.
 fn pass<H: Herd>(alloc: Global, herd: &mut H, limit: u32, want: u32) -> Result<u32, Memory>
-    ensures ok { IfOk result (λ left. Passed want left limit (H.size herd.old) (H.culls herd.old) (H.culls herd.new)) }
-    ensures err { OnErr result (PassedInPart want limit (H.size herd.old) (H.culls herd.old) (H.culls herd.new)) }
+    ensures ok { IfOk result (λ left. Passed want left limit (H.size herd.old) (H.reclaims herd.old) (H.reclaims herd.new)) }
+    ensures err { OnErr result (PassedInPart want limit (H.size herd.old) (H.reclaims herd.old) (H.reclaims herd.new)) }
     ensures size { H.size herd.new ≡ H.size herd.old }
     ensures origin { H.origin herd.new ≡ H.origin herd.old }
 {

@@ -9,14 +9,14 @@ use Rattle.std.proofs.lemmas.List.Folds.{list_all-append}
 use Rattle.up_num.specs.Span.{Span}
 use Rattle.up_num.specs.declared.pages.PageNo.{PageNo}
 use Rattle.up_num.specs.declared.pages.DirtyRange.{DirtyRange}
-use Rattle.up_words.specs.Steps.{each}
+use Rattle.up_words.specs.ReadSteps.{each}
 use Rattle.up_words.specs.Words.{split, word_at, is_byte}
 use Rattle.up_words.specs.Numbers.{number, number_between, number_up_to}
 use Rattle.up_words.specs.Runs.{too_many, hex_value, run_in, run_step, no_runs, runs_in, spread, bytes_text}
 use Rattle.up_words.specs.declared.fault.Why.{Why}
 use Rattle.up_words.specs.declared.fault.Why.TheVariants as why
-use Rattle.up_words.specs.declared.runs.Run.{Run}
-use Rattle.up_words.specs.declared.runs.Runs.{Runs}
+use Rattle.up_words.specs.declared.runs.ByteRun.{ByteRun}
+use Rattle.up_words.specs.declared.runs.ByteRuns.{ByteRuns}
 use Rattle.up_words.proofs.Decimals.{then_ok, ok_is, both, only as only_decimal}
 use Rattle.up_words.proofs.Hex.{hex_takes}
 use Rattle.up_words.proofs.ByteLists.{only as only_bytes}
@@ -85,7 +85,7 @@ runs_fine word run e =
     subst (λ (r : DirtyRange). range_lies r.range ≡ true) (ok_is _ run range.2) (range_within range.0 (word_at (run_numbers word) 0) (word_at (run_numbers word) 1) range.1)
 
 -- the byte of a run is one
-run_byte : (piece : List ℕ) (run : Run) → run_in piece ≡ Ok run → is_byte run.byte ≡ true
+run_byte : (piece : List ℕ) (run : ByteRun) → run_in piece ≡ Ok run → is_byte run.byte ≡ true
 run_byte piece run e =
     let long = then_ok why.Bytes (leb 3 (length piece)) _ run e in
     let high = found_ok why.Bytes (hex_value (get_or piece 0 0)) _ run long.1 in
@@ -94,28 +94,28 @@ run_byte piece run e =
     let count = found_ok why.Bytes (number_up_to too_many (drop 3 piece)) _ run star.1 in
     let some = then_ok why.Bytes (ltb 0 count.0) _ run count.2 in
     let small : high.0 * 16 + low.0 < 256 = omega (arith, (hex_takes (get_or piece 0 0) high.0 high.1).1, (hex_takes (get_or piece 1 0) low.0 low.1).1) in
-    subst (λ (r : Run). is_byte r.byte ≡ true) (ok_is (record { byte = high.0 * 16 + low.0; count = count.0 }) run some.1) (lt-ltb (high.0 * 16 + low.0) 256 small)
+    subst (λ (r : ByteRun). is_byte r.byte ≡ true) (ok_is (record { byte = high.0 * 16 + low.0; count = count.0 }) run some.1) (lt-ltb (high.0 * 16 + low.0) 256 small)
 
 bytes_of : (n b : ℕ) → is_byte b ≡ true → list_all is_byte (replicate n b) ≡ true
 bytes_of zero b e = refl
 bytes_of (suc n) b e = both (is_byte b) (list_all is_byte (replicate n b)) e (bytes_of n b e)
 
-spread_within : (s t : Runs) (pieces : List (List ℕ)) → list_all is_byte (spread s.found) ≡ true → each run_step s pieces ≡ Ok t → list_all is_byte (spread t.found) ≡ true
+spread_within : (s t : ByteRuns) (pieces : List (List ℕ)) → list_all is_byte (spread s.found) ≡ true → each run_step s pieces ≡ Ok t → list_all is_byte (spread t.found) ≡ true
 unfolding each
-spread_within s t [] so_far e = subst (λ (r : Runs). list_all is_byte (spread r.found) ≡ true) (ok_is s t e) so_far
+spread_within s t [] so_far e = subst (λ (r : ByteRuns). list_all is_byte (spread r.found) ≡ true) (ok_is s t e) so_far
 spread_within s t (piece ∷ pieces) so_far e =
     let step = bind_ok (run_step s piece) _ t e in
     let run = bind_ok (run_in piece) _ step.0 step.1 in
     let other = then_ok why.Bytes (not (eqb run.0.byte s.last)) _ step.0 run.2 in
     let bytes = replicate run.0.count run.0.byte in
     let whole : spread (s.found ++ run.0 ∷ []) ≡ spread s.found ++ bytes =
-    flat_map-append (λ (r : Run). replicate r.count r.byte) s.found (run.0 ∷ []) ∙ ap (λ bs. spread s.found ++ bs) (append-nil bytes) in
+    flat_map-append (λ (r : ByteRun). replicate r.count r.byte) s.found (run.0 ∷ []) ∙ ap (λ bs. spread s.found ++ bs) (append-nil bytes) in
     let more : list_all is_byte (spread (s.found ++ run.0 ∷ [])) ≡ true =
     ap (list_all is_byte) whole ∙ list_all-append is_byte (spread s.found) bytes ∙ both (list_all is_byte (spread s.found)) (list_all is_byte bytes) so_far (bytes_of run.0.count run.0.byte (run_byte piece run.0 run.1)) in
-    spread_within step.0 t pieces (subst (λ (r : Runs). list_all is_byte (spread r.found) ≡ true) (ok_is _ step.0 other.1) more) step.2
+    spread_within step.0 t pieces (subst (λ (r : ByteRuns). list_all is_byte (spread r.found) ≡ true) (ok_is _ step.0 other.1) more) step.2
 
 -- no runs are read from no bytes
-none_read : (word bytes : List ℕ) (runs : Runs) → runs_in word ≡ Ok runs → word ≡ bytes_text bytes → 0 < length bytes
+none_read : (word bytes : List ℕ) (runs : ByteRuns) → runs_in word ≡ Ok runs → word ≡ bytes_text bytes → 0 < length bytes
 unfolding each
 none_read word [] runs e same = absurd (no_empty (ap runs_in (sym same) ∙ e))
   where
@@ -124,7 +124,7 @@ none_read word [] runs e same = absurd (no_empty (ap runs_in (sym same) ∙ e))
 none_read word (b ∷ bs) runs e same = omega arith
 
 -- a byte list that was read has bytes, at least one
-pub bytes_within : (word : List ℕ) (runs : Runs) → runs_in word ≡ Ok runs → runs.total < too_many → are_bytes (spread runs.found) ≡ true
+pub bytes_within : (word : List ℕ) (runs : ByteRuns) → runs_in word ≡ Ok runs → runs.total < too_many → are_bytes (spread runs.found) ≡ true
 bytes_within word runs e less =
     let is = only_bytes word runs e less in
     let bytes = spread runs.found in

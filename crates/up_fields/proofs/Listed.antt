@@ -11,7 +11,7 @@ use Rattle.std.proofs.lemmas.List.Sums.{AllPass-from_list_all}
 use Rattle.std.proofs.lemmas.List.Folds.{list_all-append}
 use Rattle.std.proofs.lemmas.List.Splits.{slice_split_none, slice_split_at, length-slice_split, join_with_byte-slice_split}
 use Rattle.up_num.specs.declared.pages.DirtyRange.{DirtyRange}
-use Rattle.up_words.specs.Steps.{each}
+use Rattle.up_words.specs.ReadSteps.{each}
 use Rattle.up_words.specs.Words.{split, word_at, is_word, is_word_byte}
 use Rattle.up_words.specs.Numbers.{is_digit, number_between}
 use Rattle.up_words.specs.declared.fault.Why.{Why}

@@ -11,7 +11,7 @@ use Rattle.up_num.specs.Span.{Span}
 use Rattle.up_num.specs.declared.pages.PageNo.{PageNo}
 use Rattle.up_num.specs.declared.answers.Code.{Code}
 use Rattle.up_num.specs.declared.answers.Code.TheVariants.{Io, IoDataIntegrity, BadState, NoSpace, BufferTooSmall}
-use Rattle.up_words.specs.Steps.{◌>>=◌, or_why}
+use Rattle.up_words.specs.ReadSteps.{◌>>=◌, or_why}
 use Rattle.up_words.specs.Words.{is_word, is_word_byte}
 use Rattle.up_words.specs.Numbers.{is_digit, number, number_between}
 use Rattle.up_words.specs.declared.fault.Why.{Why}

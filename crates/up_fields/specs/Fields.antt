@@ -5,13 +5,13 @@ use Rattle.std.specs.Str.{bytes_eq}
 use Rattle.up_num.specs.Span.{Span}
 use Rattle.up_num.specs.declared.pages.PageNo.{PageNo}
 use Rattle.up_num.specs.declared.pages.DirtyRange.{DirtyRange}
-use Rattle.up_words.specs.Steps.{◌>>=◌, check, or_why, each}
+use Rattle.up_words.specs.ReadSteps.{◌>>=◌, check, or_why, each}
 use Rattle.up_words.specs.Words.{split, word_at}
 use Rattle.up_words.specs.Numbers.{number_between}
 use Rattle.up_words.specs.declared.fault.Why.{Why}
 use Rattle.up_words.specs.declared.fault.Why.TheVariants.{Word}
 use Rattle.up_fields.specs.Limits.{all_pages, all_sizes, all_tickets}
-use Rattle.up_words.specs.declared.runs.Runs.{Runs}
+use Rattle.up_words.specs.declared.runs.ByteRuns.{ByteRuns}
 
 -- something was found
 abbrev pub is_found : {X : Type 0} → Option X → Bool
@@ -83,6 +83,6 @@ abbrev pub runs_of_pages_in : List ℕ → Result (List DirtyRange) Why
 runs_of_pages_in word = list_in run_of word
 
 -- how many bytes the runs spell
-abbrev pub total_of : Option Runs → ℕ
+abbrev pub total_of : Option ByteRuns → ℕ
 total_of None = 0
 total_of (Some runs) = runs.total

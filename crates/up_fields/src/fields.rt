@@ -1,12 +1,12 @@
 ghost use Rattle.std.specs.Prelude.{◌≡◌, ◌==◌};
-ghost use Rattle.up_words.specs.Steps.{Gives, or_why};
+ghost use Rattle.up_words.specs.ReadSteps.{Gives, or_why};
 ghost use Rattle.up_words.specs.Numbers.{number_between};
 ghost use Rattle.up_words.specs.declared.fault.Why.TheVariants.{Word};
 ghost use Rattle.up_words.specs.Refusals.{code_in};
 ghost use Rattle.up_fields.specs.Fields.{total_of, flag_in, page_in, range_in};
 
 use up_num::{Code, PageNo, PageRange};
-use up_words::{Runs, Stop, Why, read_between, spelled_code};
+use up_words::{ByteRuns, Stop, Why, read_between, spelled_code};
 
 /// Positions, epochs and tickets are at most this.
 pub const TICKETS: u64 = u64::MAX;
@@ -83,7 +83,7 @@ pub fn read_range(first: &[u8], count: &[u8]) -> Result<PageRange, Stop>
 }
 
 /// How many bytes the runs spell.
-pub fn total(bytes: &Option<Runs>) -> u32
+pub fn total(bytes: &Option<ByteRuns>) -> u32
     ensures { result ≡ total_of bytes.now }
 {
     match bytes {

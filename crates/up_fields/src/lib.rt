@@ -1,5 +1,6 @@
 //! The fields and lists of a journal text's lines, both ways: numbers, fixed words, ranges, runs of pages and byte
 //! lists, each with one text, which is read back as the same.
+//! Used through `up_script`.
 #![tactic(auto)]
 
 mod fields;

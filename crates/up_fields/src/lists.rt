@@ -1,6 +1,6 @@
 ghost use Rattle.std.specs.Prelude.{◌≡◌, [], IfOk};
 ghost use Rattle.std.specs.List.{list_all};
-ghost use Rattle.up_words.specs.Steps.{Gives, each};
+ghost use Rattle.up_words.specs.ReadSteps.{Gives, each};
 ghost use Rattle.up_words.specs.Numbers.{number_between};
 ghost use Rattle.up_fields.specs.Limits.{all_pages, all_tickets};
 ghost use Rattle.up_fields.specs.Fields.{are_runs, is_run, list_step, page_in, run_of, pages_in, runs_of_pages_in, tickets_in};

@@ -1,5 +1,6 @@
 //! The plain types that every crate of the pager shares: page numbers and ranges, refusals, packets,
 //! outcomes, and the list type.
+//! Used by itself in `up_container_tests` and `up_disk_trials`.
 #![tactic(auto)]
 
 mod answers;

@@ -1,3 +1,4 @@
 pub mod Cause
 pub mod Front
 pub mod InMemory
+pub mod Streams

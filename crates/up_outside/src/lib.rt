@@ -1,5 +1,6 @@
 //! The outside of the pager: where bytes come from and where they go, each with a count of its failures, and
 //! implementations in memory and over std's readers and writers.
+//! Used by itself in `up_text_tests`.
 #![tactic(auto)]
 
 mod in_memory;

@@ -13,7 +13,7 @@ pub trait Sink {
     /// The bytes that were taken, where the sink tells them.
     ghost written: { Self → Option (List ℕ) };
 
-    /// How often a call failed. It never falls.
+    /// How often a call failed. It never falls, and stands where none failed.
     ghost faults: { Self → ℕ };
 
     /// Takes the first bytes of a piece, and says how many.
@@ -21,7 +21,8 @@ pub trait Sink {
         ensures bound { WritesAtMost result bytes.now }
         ensures some { IfOk result (λ count. 0 < length bytes.now → 0 < count) }
         ensures bytes { WriteAppends (written self.old) (written self.new) result bytes.now }
-        ensures cause { HasCause (faults self.old) (faults self.new) result };
+        ensures cause { HasCause (faults self.old) (faults self.new) result }
+        ensures stands { OnOk result (faults self.new ≡ faults self.old) };
 }
 
 /// Pushes all of the bytes, in as many calls as that takes. After an error some first of them were taken.
@@ -29,6 +30,7 @@ pub fn push_all<K: Sink>(sink: &mut K, bytes: &[u8]) -> Result<(), Failed>
     ensures all { OnOk result (Appends (K.written sink.old) (K.written sink.new) bytes.now) }
     ensures front { OnErr result (AppendsFront (K.written sink.old) (K.written sink.new) bytes.now) }
     ensures cause { HasCause (K.faults sink.old) (K.faults sink.new) result }
+    ensures stands { OnOk result (K.faults sink.new ≡ K.faults sink.old) }
     ensures no_call { bytes.now ≡ [] → IsOk result × (sink.new ≡ sink.old) }
 {
     let mut rest = bytes;

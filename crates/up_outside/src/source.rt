@@ -1,4 +1,4 @@
-ghost use Rattle.std.specs.Prelude.{◌≡◌, ℕ, ◌+◌, ◌<◌, ◌≤◌, ◌^◌, ◌++◌, List, IfOk, IfErr, vec_len};
+ghost use Rattle.std.specs.Prelude.{◌≡◌, ℕ, ◌+◌, ◌<◌, ◌≤◌, ◌^◌, ◌++◌, List, IfOk, IfErr, OnOk, vec_len};
 ghost use Rattle.std.specs.Io.{ReadsAtMost};
 ghost use Rattle.std.specs.Io.KnownBytes.{Consumes, IsAtEnd, ReadConsumes};
 ghost use Rattle.up_outside.specs.Cause.{HasCause, Rose};
@@ -13,7 +13,7 @@ pub trait Source {
     /// The bytes not yet read, where the source tells them.
     ghost left: { Self → Option (List ℕ) };
 
-    /// How often a call failed. It never falls.
+    /// How often a call failed. It never falls, and stands where none failed.
     ghost faults: { Self → ℕ };
 
     /// Reads bytes to the start of the buffer, and says how many. For a buffer with room, none means the end
@@ -21,7 +21,8 @@ pub trait Source {
     fn pull(&mut self, buf: &mut [u8]) -> Result<usize, Failed>
         ensures bound { ReadsAtMost result buf.new }
         ensures bytes { ReadConsumes (left self.old) (left self.new) result buf.new }
-        ensures cause { HasCause (faults self.old) (faults self.new) result };
+        ensures cause { HasCause (faults self.old) (faults self.new) result }
+        ensures stands { OnOk result (faults self.new ≡ faults self.old) };
 }
 
 /// Why a source was not read to its end.
@@ -42,6 +43,8 @@ pub fn read_to<S: Source>(alloc: Global, source: &mut S, limit: usize) -> Result
     ensures bytes { IfOk result (λ read. Consumes (S.left source.old) (S.left source.new) read.items) }
     ensures whole { IfOk result (λ read. vec_len read ≤ limit → IsAtEnd (S.left source.new)) }
     ensures later { S.faults source.old ≤ S.faults source.new }
+    ensures stands { OnOk result (S.faults source.new ≡ S.faults source.old) }
+    ensures memory { IfErr result (λ stop. stop ≡ ReadStop.Memory → S.faults source.new ≡ S.faults source.old) }
     ensures cause { IfErr result (λ stop. stop ≡ ReadStop.Source → Rose (S.faults source.old) (S.faults source.new)) }
 {
     let mut read = Vec::new(alloc);
@@ -61,6 +64,8 @@ fn read_piece<S: Source>(source: &mut S, read: &mut Vec<u8>, most: usize) -> Res
     ensures bytes { IfOk result (λ count. (piece : List ℕ) × (read.new.items ≡ read.old.items ++ piece) × Consumes (S.left source.old) (S.left source.new) piece) }
     ensures end { IfOk result (λ count. count ≡ 0 → IsAtEnd (S.left source.new)) }
     ensures later { S.faults source.old ≤ S.faults source.new }
+    ensures stands { OnOk result (S.faults source.new ≡ S.faults source.old) }
+    ensures memory { IfErr result (λ stop. stop ≡ ReadStop.Memory → S.faults source.new ≡ S.faults source.old) }
     ensures cause { IfErr result (λ stop. stop ≡ ReadStop.Source → Rose (S.faults source.old) (S.faults source.new)) }
 {
     let mut piece = [0; PIECE];

@@ -1,10 +1,12 @@
-ghost use Rattle.std.specs.Prelude.{◌≡◌, ◌<◌, ◌≤◌, length, IfSome};
+ghost use Rattle.std.specs.Prelude.{◌≡◌, ◌<◌, ◌≤◌, length, take, IfSome, IfNone};
+ghost use Rattle.std.specs.Io.KnownBytes.{Appends, Keeps};
+ghost use Rattle.up_outside.specs.Streams.{Stream};
 
 use crate::{Failed, Sink, Source};
 use std::io::{Read, Write};
 use std::marker::Model;
 
-/// A reader as a source. It tells no bytes; contracts see it as the count of its failures.
+/// A reader as a source. It tells the bytes that the reader tells.
 #[derive(Drop)]
 pub struct ReaderSource<R: Read> {
     reader: R,
@@ -12,27 +14,25 @@ pub struct ReaderSource<R: Read> {
 }
 
 impl<R: Read> Model for ReaderSource<R> {
-    ghost use Rattle.std.specs.Prelude.{ℕ};
+    ghost use Rattle.up_outside.specs.Streams.{Stream};
 
-    ghost Value = { ℕ };
+    ghost Value = { Stream };
 
-    ghost view = { λ source. source.faults };
+    ghost view = { λ source. record { bytes = R.remaining source.reader; faults = source.faults } };
 }
 
 impl<R: Read> ReaderSource<R> {
     pub fn new(reader: R) -> Self
-        ensures { result ≡ 0 }
+        ensures { result ≡ record { bytes = R.remaining reader; faults = 0 } }
     {
         ReaderSource { reader, faults: 0 }
     }
 }
 
 impl<R: Read> Source for ReaderSource<R> {
-    ghost use Rattle.std.specs.Prelude.{None};
+    ghost left = { λ source. source.bytes };
 
-    ghost left = { λ _. None };
-
-    ghost faults = { λ faults. faults };
+    ghost faults = { λ source. source.faults };
 
     fn pull(&mut self, buf: &mut [u8]) -> Result<usize, Failed> {
         match self.reader.read(buf) {
@@ -45,8 +45,10 @@ impl<R: Read> Source for ReaderSource<R> {
     }
 }
 
-/// A writer as a sink. Each push flushes what it wrote, so that after an Ok nothing is held back, and a flush
-/// that fails is a failure of the push. It tells no bytes; contracts see it as the count of its failures.
+/// A writer as a sink. It tells the bytes that the writer tells.
+///
+/// Each push flushes before it writes, since a flush that failed behind the write would leave bytes that no answer
+/// tells. It flushes behind the write too; where that fails, the next push tells it.
 #[derive(Drop)]
 pub struct WriterSink<W: Write> {
     writer: W,
@@ -54,27 +56,25 @@ pub struct WriterSink<W: Write> {
 }
 
 impl<W: Write> Model for WriterSink<W> {
-    ghost use Rattle.std.specs.Prelude.{ℕ};
+    ghost use Rattle.up_outside.specs.Streams.{Stream};
 
-    ghost Value = { ℕ };
+    ghost Value = { Stream };
 
-    ghost view = { λ sink. sink.faults };
+    ghost view = { λ sink. record { bytes = W.contents sink.writer; faults = sink.faults } };
 }
 
 impl<W: Write> WriterSink<W> {
     pub fn new(writer: W) -> Self
-        ensures { result ≡ 0 }
+        ensures { result ≡ record { bytes = W.contents writer; faults = 0 } }
     {
         WriterSink { writer, faults: 0 }
     }
 }
 
 impl<W: Write> Sink for WriterSink<W> {
-    ghost use Rattle.std.specs.Prelude.{None};
+    ghost written = { λ sink. sink.bytes };
 
-    ghost written = { λ _. None };
-
-    ghost faults = { λ faults. faults };
+    ghost faults = { λ sink. sink.faults };
 
     /// A write that takes none of some bytes is a failure too.
     fn push(&mut self, bytes: &[u8]) -> Result<usize, Failed> {
@@ -86,15 +86,18 @@ impl<W: Write> Sink for WriterSink<W> {
     }
 }
 
-// Writes and flushes; None where that failed, or no byte of some was taken.
+// Flushes, writes, and flushes again; None where nothing was taken of some bytes.
 fn write_through<W: Write>(writer: &mut W, bytes: &[u8]) -> Option<usize>
     ensures bound { IfSome result (λ count. count ≤ length bytes.now) }
     ensures some { IfSome result (λ count. 0 < length bytes.now → 0 < count) }
+    ensures taken { IfSome result (λ count. Appends (W.contents writer.old) (W.contents writer.new) (take count bytes.now)) }
+    ensures kept { IfNone result (Keeps (W.contents writer.old) (W.contents writer.new)) }
 {
-    let count = writer.write(bytes).ok()?;
     writer.flush().ok()?;
+    let count = writer.write(bytes).ok()?;
     if count == 0 && !bytes.is_empty() {
         return None;
     }
+    let _ = writer.flush();
     Some(count)
 }

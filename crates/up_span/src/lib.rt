@@ -1,4 +1,5 @@
 //! Sets of pages as runs: the set type, and what is said of pages and runs of a range.
+//! Used by itself in `up_container_tests`.
 #![tactic(auto)]
 
 mod gaps;

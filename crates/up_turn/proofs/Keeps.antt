@@ -11,7 +11,7 @@ use Rattle.up_model.specs.declared.entry.Entry.{Entry}
 use Rattle.up_turn.specs.Placing.{has, Begins, Tally}
 use Rattle.up_turn.specs.Standing.{Counts, GoesOn}
 use Rattle.up_turn.specs.Turned.{Fits, IsHome, Turned}
-use Rattle.up_turn.specs.Plays.{found, came_in, gone_out, Counted, fronted, settled, Entered, entered, left, InHand}
+use Rattle.up_turn.specs.SeatSteps.{found, came_in, gone_out, Counted, fronted, agreed, Entered, entered, left, InHand}
 use Rattle.up_turn.specs.declared.view.View.{View}
 use Rattle.up_turn.proofs.Placings.{begins_same, has_append}
 use Rattle.up_turn.proofs.Views.{others_fit, whole_tally, counted, found_fits, came_fits, out_later, quiet_out, out_tally, gone_fits, apart_out, known_out}
@@ -110,7 +110,7 @@ looks {S} kin list actors slots id me s r _ at _ = let n : ℕ = get_or s.words 
       (refl, subst (Counted me.0) (sym count) (counted r.log r.held r.holder r.root actors r.owner id me.0 f)),
     )
 
-pub settles : {S : Type 0} (kin : S → Type 0) (list : S → List Entry) (actors slots id : ℕ) (me : Me (Option S) View) → Allows (Turned kin list actors) slots id me 0 (λ n. n) (settled (step slots 0 0 0 none) me)
+pub settles : {S : Type 0} (kin : S → Type 0) (list : S → List Entry) (actors slots id : ℕ) (me : Me (Option S) View) → Allows (Turned kin list actors) slots id me 0 (λ n. n) (agreed (step slots 0 0 0 none) me)
 settles {S} kin list actors slots id me s r _ at _ = let n : ℕ = get_or s.words 0 0 in let f = r.each id me.0 at in (
   me.0,
   keeps,
@@ -133,6 +133,7 @@ enters {S} kin0 kin list actors slots id old v even counts lift s r _ at _ = let
           value = h.value;
           fits = lift h.value h.fits;
           later = subst (Begins v.seen) (sym h.is) f.seen;
+          was = f.tally;
           tally = subst (Tally v.numbers v.own) (sym h.is) (whole_tally r.log r.held r.holder r.root actors r.owner id v f);
           finds = let same = ap length h.is in λ i d l. (let low = f.found i d l in omega arith);
           is = refl;
@@ -190,6 +191,7 @@ in_hand {S} kin list m m' m'' e bare x was is =
       e.fits,
       record {
         later = e.later;
+        was = e.was;
         tally = e.tally;
         finds = e.finds;
         is = is ∙ ap₂ (λ (w : View) (cs : List (ℕ × Option S)). (w, (0, None) ∷ cs)) (ap (λ (z : Me (Option S) View). z.0) e.is) left_over;

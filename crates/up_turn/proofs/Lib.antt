@@ -2,5 +2,5 @@ pub mod Placings
 pub mod Views
 pub mod Keeps
 pub mod Passes
-pub mod Ends
-pub mod Moments
+pub mod FirstAndLast
+pub mod TurnLaws

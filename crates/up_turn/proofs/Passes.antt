@@ -10,7 +10,7 @@ use Rattle.up_model.specs.declared.entry.Entry.{Entry}
 use Rattle.up_turn.specs.Placing.{Placed, placed, by, has, without}
 use Rattle.up_turn.specs.Standing.{Counts}
 use Rattle.up_turn.specs.Turned.{Fits, Turned}
-use Rattle.up_turn.specs.Plays.{lacks, only, united, spent}
+use Rattle.up_turn.specs.SeatSteps.{lacks, only, united, spent}
 use Rattle.up_turn.specs.declared.view.View.{View}
 use Rattle.up_turn.proofs.Placings.{two, not_both, by_append, begins_same, begins_none, begins_long, between, IsLonger, longer_of, longer_first, has_append, without_it, without_other}
 use Rattle.up_turn.proofs.Views.{others_fit, none_found, none_falls, blank_fits}

@@ -8,7 +8,7 @@ use Rattle.up_model.specs.declared.entry.Entry.{Entry}
 use Rattle.up_turn.specs.Placing.{Placed, placed, by, has, Begins, Tally}
 use Rattle.up_turn.specs.Standing.{Counts, GoesOn}
 use Rattle.up_turn.specs.Turned.{IsInside, Fits}
-use Rattle.up_turn.specs.Plays.{found, came_in, gone_out, spent, Counted}
+use Rattle.up_turn.specs.SeatSteps.{found, came_in, gone_out, spent, Counted}
 use Rattle.up_turn.specs.declared.view.View.{View}
 use Rattle.up_turn.proofs.Placings.{two, by_append, by_more, by_none, begins_same, begins_none, begins_then, begins_long, drop_new}
 

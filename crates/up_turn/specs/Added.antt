@@ -1,4 +1,4 @@
--- What a call on a sheet makes of a pass, and whose its entries are.
+-- What a call on a journal makes of a pass, and whose its entries are.
 use Rattle.std.specs.Prelude.{◌≡◌, ◌++◌, ◌∷◌, [], ℕ, List, false, length, map}
 use Rattle.up_model.specs.declared.entry.Entry.{Entry}
 use Rattle.up_turn.specs.Placing.{placed, by, Begins}

@@ -1,6 +1,6 @@
 pub mod Placing
 pub mod Standing
 pub mod Turned
-pub mod Plays
+pub mod SeatSteps
 pub mod Laws
 pub mod Added

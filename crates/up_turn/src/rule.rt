@@ -1,6 +1,6 @@
 //! The rule of a turn's table, and what each kind of step on it tells.
 //! The one word is twice the count of entries, and 1 more while a pass is inside. The one slot has the value while none is.
-ghost use Rattle.up_turn.specs.Plays.{fronted, settled, entered, left, lacks, only, united, spent};
+ghost use Rattle.up_turn.specs.SeatSteps.{fronted, agreed, entered, left, lacks, only, united, spent};
 
 use crate::chronicle::Chronicle;
 use crate::view::View;
@@ -33,8 +33,6 @@ pub type Place<S> = Seat<Option<S>, View>;
 
 /// The values of a turn's origin. The call picks which.
 pub trait Kin<S> {
-    ghost use Rattle.std.specs.Prelude.{};
-
     ghost kin: { S → Type 0 };
 }
 
@@ -61,10 +59,10 @@ impl<S> Play<Option<S>, View> for Front {
 }
 
 /// A load after a join.
-pub struct Settle;
+pub struct Agree;
 
-impl<S> Play<Option<S>, View> for Settle {
-    ghost then = { settled };
+impl<S> Play<Option<S>, View> for Agree {
+    ghost then = { agreed };
 }
 
 /// A pass is let in where none is inside, and takes the slot.

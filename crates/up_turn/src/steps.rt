@@ -3,10 +3,10 @@ ghost use Rattle.std.specs.Prelude.{◌≡◌, ℕ, ◌+◌, ◌%◌, ◌/◌, �
 ghost use Rattle.up_turn.specs.Placing.{placed, by, has, without, Begins, Tally};
 ghost use Rattle.up_turn.specs.Standing.{Counts, GoesOn};
 ghost use Rattle.up_turn.specs.Turned.{newcomer};
-ghost use Rattle.up_turn.specs.Plays.{found, lacks, only, united, gone_out, Counted, InHand};
+ghost use Rattle.up_turn.specs.SeatSteps.{found, lacks, only, united, gone_out, Counted, InHand};
 
 use crate::chronicle::Chronicle;
-use crate::rule::{Board, Enter, Front, Kin, Leave, Part, Place, Settle, Terms, Unite, Who};
+use crate::rule::{Agree, Board, Enter, Front, Kin, Leave, Part, Place, Terms, Unite, Who};
 use crate::turn::Turn;
 use atomic_table::{Refused, Table};
 use std::alloc::{AllocError, AllocFailed, Global};
@@ -156,7 +156,7 @@ impl<S: Chronicle> Turn<S> {
         ensures own { Tally place.new.me.0.numbers place.new.me.0.own place.new.me.0.seen }
     {
         self.table.shared.join_seat::<Unite>(place, other);
-        self.table.shared.load::<Settle>(place, 0);
+        self.table.shared.load::<Agree>(place, 0);
     }
 
     // The value at the end.

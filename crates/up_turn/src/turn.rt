@@ -47,7 +47,8 @@ impl<S: Chronicle> Turn<S> {
         Ok((Turn { table }, Pass { place }))
     }
 
-    /// Waits until no pass is inside, and then takes the value.
+    /// Waits until no pass is inside, and then takes the value. What the pass had seen tallied with its own entries, so a caller
+    /// need not carry that along (`was`).
     pub fn enter<R: Wait>(&self, rt: &R, pass: &mut Pass<S>) -> Held<S>
         requires turn { pass.old.turn ≡ self.now.table }
         requires outside { pass.old.inside ≡ false }
@@ -55,6 +56,7 @@ impl<S: Chronicle> Turn<S> {
         ensures origin { S.origin result.state ≡ S.origin self.now.opening }
         ensures later { Begins pass.old.seen (S.list result.state) }
         ensures pass { pass.new ≡ record pass.old { seen = S.list result.state; inside = true } }
+        ensures was { Tally pass.old.numbers pass.old.own pass.old.seen }
         ensures own { Tally pass.new.numbers pass.new.own (S.list result.state) }
         ensures finds { All (λ n. n ≤ length (S.list result.state)) pass.old.finds }
     {

@@ -5,29 +5,29 @@ use Rattle.std.proofs.lemmas.Bool.{eqb-true, eqb-false, eq-eqb, ne_eqb, not-true
 use Rattle.std.proofs.lemmas.List.{replicate_more, length-append, length-replicate}
 use Rattle.std.proofs.lemmas.List.Concat.{flat_map-append}
 use Rattle.std.proofs.lemmas.List.Splits.{slice_split_none, slice_split_at, length-slice_split, join_with_byte-slice_split}
-use Rattle.up_words.specs.Steps.{◌>>=◌, each}
+use Rattle.up_words.specs.ReadSteps.{◌>>=◌, each}
 use Rattle.up_words.specs.Words.{split, is_byte}
 use Rattle.up_words.specs.Runs.{too_many, run_in, run_step, no_runs, spread, run_text, text_from, bytes_text}
 use Rattle.up_words.specs.Laws.{ReadsBytesText, ReadsOnlyBytesText}
 use Rattle.up_words.specs.declared.fault.Why.{Why}
 use Rattle.up_words.specs.declared.fault.Why.TheVariants as why
-use Rattle.up_words.specs.declared.runs.Run.{Run}
-use Rattle.up_words.specs.declared.runs.Runs.{Runs}
+use Rattle.up_words.specs.declared.runs.ByteRun.{ByteRun}
+use Rattle.up_words.specs.declared.runs.ByteRuns.{ByteRuns}
 use Rattle.up_words.proofs.Decimals.{then_ok, ok_is}
 use Rattle.up_words.proofs.Pieces.{run_again, run_takes, run_unparted}
 
 -- the runs after one more
-one_more : Runs → Run → Runs
+one_more : ByteRuns → ByteRun → ByteRuns
 one_more s run = record { found = s.found ++ run ∷ []; last = run.byte; total = min (s.total + run.count) too_many }
 
 -- one run more is read from its text, where its byte is another than the last
-step_again : (s : Runs) (b n : ℕ) → b < 256 → 0 < n → n ≤ too_many → (b ≡ s.last → ⊥) → run_step s (run_text b n) ≡ Ok (one_more s (record { byte = b; count = n }))
+step_again : (s : ByteRuns) (b n : ℕ) → b < 256 → 0 < n → n ≤ too_many → (b ≡ s.last → ⊥) → run_step s (run_text b n) ≡ Ok (one_more s (record { byte = b; count = n }))
 unfolding one_more
 step_again s b n byte some le other = rw (run_again b n byte some le, ne_eqb b s.last other) refl
 
 -- spread runs with one more are followed by its bytes
-spread_more : (runs : List Run) (run : Run) → spread (runs ++ run ∷ []) ≡ spread runs ++ replicate run.count run.byte
-spread_more runs run = flat_map-append (λ (r : Run). replicate r.count r.byte) runs (run ∷ []) ∙ ap (λ bs. spread runs ++ bs) (append-nil (replicate run.count run.byte))
+spread_more : (runs : List ByteRun) (run : ByteRun) → spread (runs ++ run ∷ []) ≡ spread runs ++ replicate run.count run.byte
+spread_more runs run = flat_map-append (λ (r : ByteRun). replicate r.count r.byte) runs (run ∷ []) ∙ ap (λ bs. spread runs ++ bs) (append-nil (replicate run.count run.byte))
 
 -- where the byte behind n times b is b too, it stands once more
 replicate_next : (n b c : ℕ) (cs : List ℕ) → eqb c b ≡ true → replicate (n + 1) b ++ cs ≡ replicate n b ++ c ∷ cs
@@ -44,17 +44,17 @@ unfolding text_from
 text_other b n c cs e = rw e (append_assoc (run_text b n) (43 ∷ []) (text_from c 1 cs))
 
 -- after the runs s the word is read as more runs, of these bytes
-record ReadsAs (s : Runs) (word bytes : List ℕ) : Type 0 where
-  pub runs : Runs
+record ReadsAs (s : ByteRuns) (word bytes : List ℕ) : Type 0 where
+  pub runs : ByteRuns
   pub read : each run_step s (split 43 word) ≡ Ok runs
   pub found : spread runs.found ≡ spread s.found ++ bytes
   pub total : runs.total ≡ s.total + length bytes
 
 -- the text of one run is read as that run
-one_reads : (s : Runs) (b n : ℕ) → b < 256 → 0 < n → s.total + n < too_many → (b ≡ s.last → ⊥) → ReadsAs s (run_text b n) (replicate n b)
+one_reads : (s : ByteRuns) (b n : ℕ) → b < 256 → 0 < n → s.total + n < too_many → (b ≡ s.last → ⊥) → ReadsAs s (run_text b n) (replicate n b)
 unfolding each one_more
 one_reads s b n byte some fits other =
-    let run : Run = record { byte = b; count = n } in
+    let run : ByteRun = record { byte = b; count = n } in
     record {
       runs = one_more s run;
       read = rw (slice_split_none (λ x. eqb x 43) (run_text b n) (run_unparted b n (omega arith)), step_again s b n byte some (omega arith) other) refl;
@@ -63,11 +63,11 @@ one_reads s b n byte some fits other =
     }
 
 -- the text of one run, with other runs behind a plus sign, is read as that run and these
-more_reads : (s : Runs) (b n : ℕ) (word bytes : List ℕ) → b < 256 → 0 < n → s.total + n < too_many → (b ≡ s.last → ⊥) → ReadsAs (one_more s (record { byte = b; count = n })) word bytes
+more_reads : (s : ByteRuns) (b n : ℕ) (word bytes : List ℕ) → b < 256 → 0 < n → s.total + n < too_many → (b ≡ s.last → ⊥) → ReadsAs (one_more s (record { byte = b; count = n })) word bytes
     → ReadsAs s (run_text b n ++ 43 ∷ word) (replicate n b ++ bytes)
 unfolding each one_more
 more_reads s b n word bytes byte some fits other r =
-    let run : Run = record { byte = b; count = n } in
+    let run : ByteRun = record { byte = b; count = n } in
     record {
       runs = r.runs;
       read = rw (slice_split_at (λ x. eqb x 43) (run_text b n) 43 word (run_unparted b n (omega arith)) refl, step_again s b n byte some (omega arith) other) r.read;
@@ -76,12 +76,12 @@ more_reads s b n word bytes byte some fits other r =
     }
 
 -- the text of some bytes, before which b stood n times, is read as runs of them all
-text_reads : (s : Runs) (b n : ℕ) (bytes : List ℕ) → b < 256 → list_all is_byte bytes ≡ true → 0 < n → s.total + (n + length bytes) < too_many → (b ≡ s.last → ⊥) → ReadsAs s (text_from b n bytes) (replicate n b ++ bytes)
+text_reads : (s : ByteRuns) (b n : ℕ) (bytes : List ℕ) → b < 256 → list_all is_byte bytes ≡ true → 0 < n → s.total + (n + length bytes) < too_many → (b ≡ s.last → ⊥) → ReadsAs s (text_from b n bytes) (replicate n b ++ bytes)
 unfolding text_from one_more
 text_reads s b n [] byte all some fits other = rw (append-nil (replicate n b)) (one_reads s b n byte some (omega arith) other)
 text_reads s b n (c ∷ cs) byte all some fits other =
     let bytes = and_parts (is_byte c) (list_all is_byte cs) all in
-    let run : Run = record { byte = b; count = n } in
+    let run : ByteRun = record { byte = b; count = n } in
     let same : eqb c b ≡ true → ReadsAs s (text_from b n (c ∷ cs)) (replicate n b ++ c ∷ cs) =
     λ e. rw (text_same b n c cs e) (subst (λ bs. ReadsAs s (text_from b (n + 1) cs) bs) (replicate_next n b c cs e) (text_reads s b (n + 1) cs byte bytes.1 (omega arith) (omega arith) other)) in
     let differs : eqb c b ≡ false → ReadsAs s (text_from b n (c ∷ cs)) (replicate n b ++ c ∷ cs) =
@@ -104,14 +104,14 @@ bind_ok (Ok x) next y e = (x, refl, e)
 bind_ok (Err reason) next y e = absurd cc
 
 -- a piece that is read as one run more
-record AddsRun (s t : Runs) (piece : List ℕ) : Type 0 where
-  pub run : Run
+record AddsRun (s t : ByteRuns) (piece : List ℕ) : Type 0 where
+  pub run : ByteRun
   pub read : run_in piece ≡ Ok run
   pub other : run.byte ≡ s.last → ⊥
   pub added : one_more s run ≡ t
 
 -- a piece that is a step from the runs s to the runs t adds one run to them
-step_takes : (s t : Runs) (piece : List ℕ) → run_step s piece ≡ Ok t → AddsRun s t piece
+step_takes : (s t : ByteRuns) (piece : List ℕ) → run_step s piece ≡ Ok t → AddsRun s t piece
 unfolding one_more
 step_takes s t piece e =
     let run = bind_ok (run_in piece) _ t e in
@@ -131,7 +131,7 @@ text_run b k (suc n) bytes =
     text_same b k b (replicate n b ++ bytes) (eq-eqb b b refl) ∙ text_run b (k + 1) n bytes ∙ ap (λ m. text_from b m bytes) next
 
 -- the word is the text of some bytes, at least one, which the runs t are read as behind the runs s
-record IsTextOf (s t : Runs) (word : List ℕ) : Type 0 where
+record IsTextOf (s t : ByteRuns) (word : List ℕ) : Type 0 where
   pub first : ℕ
   pub rest : List ℕ
   pub other : first ≡ s.last → ⊥
@@ -140,7 +140,7 @@ record IsTextOf (s t : Runs) (word : List ℕ) : Type 0 where
   pub total : t.total ≡ s.total + length (first ∷ rest)
 
 -- the one piece is the text of its run
-one_takes : (s : Runs) (run : Run) (piece : List ℕ) → run_in piece ≡ Ok run → (run.byte ≡ s.last → ⊥) → min (s.total + run.count) too_many < too_many → IsTextOf s (one_more s run) piece
+one_takes : (s : ByteRuns) (run : ByteRun) (piece : List ℕ) → run_in piece ≡ Ok run → (run.byte ≡ s.last → ⊥) → min (s.total + run.count) too_many < too_many → IsTextOf s (one_more s run) piece
 unfolding one_more text_from
 one_takes s run piece e other less =
     let p = run_takes piece run e (omega arith) in
@@ -159,7 +159,7 @@ one_takes s run piece e other less =
     }
 
 -- the first of more pieces is the text of its run, and the others are the text of what stands behind it
-more_takes : (s t : Runs) (run : Run) (piece word : List ℕ) → run_in piece ≡ Ok run → (run.byte ≡ s.last → ⊥) → IsTextOf (one_more s run) t word → t.total < too_many → IsTextOf s t (piece ++ 43 ∷ word)
+more_takes : (s t : ByteRuns) (run : ByteRun) (piece word : List ℕ) → run_in piece ≡ Ok run → (run.byte ≡ s.last → ⊥) → IsTextOf (one_more s run) t word → t.total < too_many → IsTextOf s t (piece ++ 43 ∷ word)
 unfolding one_more
 more_takes s t run piece word e other r less =
     let p = run_takes piece run e (omega (arith, r.total)) in
@@ -178,14 +178,14 @@ more_takes s t run piece word e other r less =
     }
 
 -- pieces that are read as runs are, joined by plus signs, the text of what these spread to
-pieces_take : (s t : Runs) (pieces : List (List ℕ)) → 0 < length pieces → each run_step s pieces ≡ Ok t → t.total < too_many → IsTextOf s t (join_with_byte 43 pieces)
+pieces_take : (s t : ByteRuns) (pieces : List (List ℕ)) → 0 < length pieces → each run_step s pieces ≡ Ok t → t.total < too_many → IsTextOf s t (join_with_byte 43 pieces)
 unfolding each one_more
 pieces_take s t [] some e less = absurd (omega arith)
 pieces_take s t (piece ∷ []) some e less =
     let step = bind_ok (run_step s piece) _ t e in
     let a = step_takes s step.0 piece step.1 in
     let same : one_more s a.run ≡ t = a.added ∙ ok_is step.0 t step.2 in
-    subst (λ u. IsTextOf s u piece) same (one_takes s a.run piece a.read a.other (subst (λ (u : Runs). u.total < too_many) (sym same) less))
+    subst (λ u. IsTextOf s u piece) same (one_takes s a.run piece a.read a.other (subst (λ (u : ByteRuns). u.total < too_many) (sym same) less))
 pieces_take s t (piece ∷ next ∷ pieces) some e less =
     let step = bind_ok (run_step s piece) _ t e in
     let a = step_takes s step.0 piece step.1 in

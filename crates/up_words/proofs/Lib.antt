@@ -1,4 +1,4 @@
-pub mod Steps
+pub mod ReadSteps
 pub mod Fronts
 pub mod Decimals
 pub mod Hex

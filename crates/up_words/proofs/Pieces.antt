@@ -4,12 +4,12 @@ use Rattle.std.specs.Fmt.{decimal}
 use Rattle.std.proofs.lemmas.Bool.{eqb-true, lt-ltb, ltb-true, le-leb, leb-true, ne_eqb}
 use Rattle.std.proofs.lemmas.Fmt.{digits_decimal}
 use Rattle.std.proofs.lemmas.List.Sums.{AllPass-from_list_all}
-use Rattle.up_words.specs.Steps.{◌>>=◌, or_why}
+use Rattle.up_words.specs.ReadSteps.{◌>>=◌, or_why}
 use Rattle.up_words.specs.Numbers.{is_digit, number_up_to}
 use Rattle.up_words.specs.Runs.{too_many, hex, hex_value, run_in, run_text}
 use Rattle.up_words.specs.declared.fault.Why.{Why}
 use Rattle.up_words.specs.declared.fault.Why.TheVariants as why
-use Rattle.up_words.specs.declared.runs.Run.{Run}
+use Rattle.up_words.specs.declared.runs.ByteRun.{ByteRun}
 use Rattle.up_words.proofs.Decimals.{own, parts_of, then_ok, ok_is}
 use Rattle.up_words.proofs.Hex.{hex_least, hex_again, hex_takes}
 use Rattle.up_words.proofs.Counts.{count_again, count_takes}
@@ -27,11 +27,11 @@ run_again b n byte some le =
     let made = λ (k : ℕ). ok_run (record { byte = k; count = n }) in
     rw (long, hex_again (b / 16) (omega arith), hex_again (b % 16) (omega arith), count_again too_many n le (omega arith), lt-ltb 0 n some) (ap made whole)
   where
-    ok_run : Run → Result Run Why
+    ok_run : ByteRun → Result ByteRun Why
     ok_run run = Ok run
 
 -- the piece's digits, star and count are those of the run
-record IsRead (piece : List ℕ) (run : Run) : Type 0 where
+record IsRead (piece : List ℕ) (run : ByteRun) : Type 0 where
   pub high : ℕ
   pub low : ℕ
   pub high_is : hex_value (get_or piece 0 0) ≡ Some high
@@ -43,7 +43,7 @@ record IsRead (piece : List ℕ) (run : Run) : Type 0 where
   pub long : 3 ≤ length piece
 
 -- a piece that is read as a run has its digits, star and count
-read_from : (piece : List ℕ) (run : Run) → run_in piece ≡ Ok run → IsRead piece run
+read_from : (piece : List ℕ) (run : ByteRun) → run_in piece ≡ Ok run → IsRead piece run
 read_from piece run e =
     let long = then_ok why.Bytes (leb 3 (length piece)) _ run e in
     let high = found_ok why.Bytes (hex_value (get_or piece 0 0)) _ run long.1 in
@@ -52,7 +52,7 @@ read_from piece run e =
     let count = found_ok why.Bytes (number_up_to too_many (drop 3 piece)) _ run star.1 in
     let some = then_ok why.Bytes (ltb 0 count.0) _ run count.2 in
     let made = ok_is (record { byte = high.0 * 16 + low.0; count = count.0 }) run some.1 in
-    let count_same : count.0 ≡ run.count = ap (λ (r : Run). r.count) made in
+    let count_same : count.0 ≡ run.count = ap (λ (r : ByteRun). r.count) made in
     record {
       high = high.0;
       low = low.0;
@@ -60,7 +60,7 @@ read_from piece run e =
       low_is = low.1;
       star_is = eqb-true (get_or piece 2 0) 42 star.0;
       count_is = count.1 ∙ ap (λ (n : ℕ). Some n) count_same;
-      byte_is = ap (λ (r : Run). r.byte) made;
+      byte_is = ap (λ (r : ByteRun). r.byte) made;
       some = rw count_same at (ltb-true 0 count.0 some.0);
       long = leb-true 3 (length piece) long.0;
     }
@@ -73,7 +73,7 @@ front_three (a ∷ b ∷ []) long = absurd (omega arith)
 front_three (a ∷ b ∷ c ∷ rest) long = refl
 
 -- no other piece is read as the run
-pub run_takes : (piece : List ℕ) (run : Run) → run_in piece ≡ Ok run → run.count < too_many → (piece ≡ run_text run.byte run.count) × (0 < run.count)
+pub run_takes : (piece : List ℕ) (run : ByteRun) → run_in piece ≡ Ok run → run.count < too_many → (piece ≡ run_text run.byte run.count) × (0 < run.count)
 run_takes piece run e less =
     let r = read_from piece run e in
     let high = hex_takes (get_or piece 0 0) r.high r.high_is in

@@ -4,7 +4,7 @@ use Rattle.std.specs.List.{join_with_byte, list_all}
 use Rattle.up_words.specs.Words.{words_in, is_byte}
 use Rattle.up_words.specs.Numbers.{number}
 use Rattle.up_words.specs.Runs.{runs_in, spread, bytes_text, too_many}
-use Rattle.up_words.specs.declared.runs.Runs.{Runs}
+use Rattle.up_words.specs.declared.runs.ByteRuns.{ByteRuns}
 
 -- the decimal text of a number is read as that number
 abbrev pub ReadsDecimal : Type 0
@@ -21,9 +21,9 @@ JoinsWords = (line : List ℕ) (words : List (List ℕ)) → words_in line ≡ O
 -- the text of some bytes is read as runs that spread to these bytes
 abbrev pub ReadsBytesText : Type 0
 ReadsBytesText = (bytes : List ℕ) → 0 < length bytes → length bytes < too_many → list_all is_byte bytes ≡ true
-    → (runs : Runs) × (runs_in (bytes_text bytes) ≡ Ok runs) × (spread runs.found ≡ bytes) × (runs.total ≡ length bytes)
+    → (runs : ByteRuns) × (runs_in (bytes_text bytes) ≡ Ok runs) × (spread runs.found ≡ bytes) × (runs.total ≡ length bytes)
 
 -- no other text is read as runs that spread to them
 abbrev pub ReadsOnlyBytesText : Type 0
-ReadsOnlyBytesText = (word : List ℕ) (runs : Runs) → runs_in word ≡ Ok runs → runs.total < too_many
+ReadsOnlyBytesText = (word : List ℕ) (runs : ByteRuns) → runs_in word ≡ Ok runs → runs.total < too_many
     → (word ≡ bytes_text (spread runs.found)) × (length (spread runs.found) ≡ runs.total)

@@ -1,4 +1,4 @@
-pub mod Steps
+pub mod ReadSteps
 pub mod Words
 pub mod Numbers
 pub mod Names

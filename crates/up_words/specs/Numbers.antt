@@ -1,6 +1,6 @@
 -- Numbers in a text.
 use Rattle.std.specs.Prelude.{ℕ, ◌+◌, ◌-◌, ◌*◌, ◌==◌, ◌&&◌, Bool, true, false, cond, min, List, [], ◌∷◌, Option, Some, None, Result, Ok, nat_le}
-use Rattle.up_words.specs.Steps.{◌>>=◌, check, or_why}
+use Rattle.up_words.specs.ReadSteps.{◌>>=◌, check, or_why}
 use Rattle.up_words.specs.declared.fault.Why.{Why}
 use Rattle.up_words.specs.declared.fault.Why.TheVariants as why
 

@@ -1,13 +1,13 @@
 -- Byte lists in a text: runs of one byte each, as 61*3+62*1.
 use Rattle.std.specs.Prelude.{ℕ, ◌+◌, ◌-◌, ◌*◌, ◌/◌, ◌%◌, ◌==◌, ◌&&◌, ◌++◌, cond, not, min, List, [], ◌∷◌, Option, Some, None, Result, Ok, drop, get_or, length, nat_le, nat_lt, replicate, decimal, codes}
 use Rattle.std.specs.List.{flat_map}
-use Rattle.up_words.specs.Steps.{◌>>=◌, check, or_why, each}
+use Rattle.up_words.specs.ReadSteps.{◌>>=◌, check, or_why, each}
 use Rattle.up_words.specs.Words.{split}
 use Rattle.up_words.specs.Numbers.{is_digit, number_up_to}
 use Rattle.up_words.specs.declared.fault.Why.{Why}
 use Rattle.up_words.specs.declared.fault.Why.TheVariants as why
-use Rattle.up_words.specs.declared.runs.Run.{Run}
-use Rattle.up_words.specs.declared.runs.Runs.{Runs}
+use Rattle.up_words.specs.declared.runs.ByteRun.{ByteRun}
+use Rattle.up_words.specs.declared.runs.ByteRuns.{ByteRuns}
 
 -- one more byte than any text may spell: longer lists aren't told apart
 abbrev pub too_many : ℕ
@@ -20,7 +20,7 @@ hex_value byte =
     (cond (nat_le 97 byte && nat_le byte 102) (Some (byte - 97 + 10)) None)
 
 -- two hexadecimal digits, a star, and how often the byte stands: at least once
-abbrev pub run_in : List ℕ → Result Run Why
+abbrev pub run_in : List ℕ → Result ByteRun Why
 run_in piece = do
   long ← check why.Bytes (nat_le 3 (length piece))
   high ← or_why why.Bytes (hex_value (get_or piece 0 0))
@@ -31,22 +31,22 @@ run_in piece = do
   Ok (record { byte = high * 16 + low; count = count })
 
 -- one run more: its byte isn't that of the run before it
-abbrev pub run_step : Runs → List ℕ → Result Runs Why
+abbrev pub run_step : ByteRuns → List ℕ → Result ByteRuns Why
 run_step runs piece = do
   run ← run_in piece
   other ← check why.Bytes (not (run.byte == runs.last))
   Ok (record { found = runs.found ++ run ∷ []; last = run.byte; total = min (runs.total + run.count) too_many })
 
 -- before the first run
-abbrev pub no_runs : Runs
+abbrev pub no_runs : ByteRuns
 no_runs = record { found = []; last = 256; total = 0 }
 
 -- the runs that a word spells
-abbrev pub runs_in : List ℕ → Result Runs Why
+abbrev pub runs_in : List ℕ → Result ByteRuns Why
 runs_in word = each run_step no_runs (split 43 word)
 
 -- the bytes of all runs
-abbrev pub spread : List Run → List ℕ
+abbrev pub spread : List ByteRun → List ℕ
 spread runs = flat_map (λ run. replicate run.count run.byte) runs
 
 -- a field of a line: so many bytes

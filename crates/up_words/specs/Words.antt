@@ -2,7 +2,7 @@
 use Rattle.std.specs.Prelude.{ℕ, ◌==◌, ◌&&◌, Bool, List, [], Result, Ok, get_or, length, nat_le, nat_lt, not}
 use Rattle.std.specs.List.{slice_split, list_all}
 use Rattle.std.specs.Str.{bytes_eq}
-use Rattle.up_words.specs.Steps.{◌>>=◌, check}
+use Rattle.up_words.specs.ReadSteps.{◌>>=◌, check}
 use Rattle.up_words.specs.declared.fault.Why.{Why}
 use Rattle.up_words.specs.declared.fault.Why.TheVariants.{Word}
 

@@ -1,5 +1,5 @@
 ghost use Rattle.std.specs.Prelude.{◌≡◌};
-ghost use Rattle.up_words.specs.Steps.{fault_of};
+ghost use Rattle.up_words.specs.ReadSteps.{fault_of};
 ghost use Rattle.up_words.specs.declared.fault.Stop.TheVariants.{Memory as MemoryStop};
 ghost use Rattle.up_words.specs.declared.fault.ReadFault.TheVariants.{Memory as MemoryFault};
 

@@ -1,5 +1,5 @@
 ghost use Rattle.std.specs.Prelude.{◌≡◌, ◌≤◌, ◌<◌, IfOk, IfSome};
-ghost use Rattle.up_words.specs.Steps.{Gives};
+ghost use Rattle.up_words.specs.ReadSteps.{Gives};
 ghost use Rattle.up_words.specs.Numbers.{digits_from, digits_up_to, has_bad_front, number, number_up_to, number_between};
 
 use crate::fault::{Stop, Why};

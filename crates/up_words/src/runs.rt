@@ -1,6 +1,6 @@
 ghost use Rattle.std.specs.Prelude.{◌≡◌, ◌≤◌, ◌<◌, length, min, IfOk, IfSome};
 ghost use Rattle.std.specs.List.{sum_by};
-ghost use Rattle.up_words.specs.Steps.{Gives, each, or_why};
+ghost use Rattle.up_words.specs.ReadSteps.{Gives, each, or_why};
 ghost use Rattle.up_words.specs.Numbers.{number_up_to};
 ghost use Rattle.up_words.specs.declared.fault.Why.TheVariants.{Bytes};
 ghost use Rattle.up_words.specs.Runs.{too_many, hex_value, run_in, run_step, no_runs, runs_in, spread, bytes_between};
@@ -16,7 +16,7 @@ pub const TOO_MANY: u32 = 268_435_457;
 
 /// A byte, and how often it stands.
 #[derive(Clone, Copy, PartialEq, Eq, Debug)]
-pub struct Run {
+pub struct ByteRun {
     pub byte: u8,
     pub count: u32,
 }
@@ -24,8 +24,8 @@ pub struct Run {
 /// The runs that a word spells so far, the byte of the last one (256 before the first), and how many bytes they are in
 /// all, at most `TOO_MANY`.
 #[derive(Debug, Drop)]
-pub struct Runs {
-    pub found: Items<Run>,
+pub struct ByteRuns {
+    pub found: Items<ByteRun>,
     pub last: u32,
     pub total: u32,
 }
@@ -61,7 +61,7 @@ fn read_count(word: &[u8]) -> Result<u32, Stop>
     }
 }
 
-fn read_run(piece: &[u8]) -> Result<Run, Stop>
+fn read_run(piece: &[u8]) -> Result<ByteRun, Stop>
     ensures value { Gives (λ run. run) result (run_in piece.now) }
     ensures within { IfOk result (λ run. run.count ≤ too_many) }
 {
@@ -77,13 +77,13 @@ fn read_run(piece: &[u8]) -> Result<Run, Stop>
     if count == 0 {
         return Err(Stop::Found(Why::Bytes));
     }
-    Ok(Run {
+    Ok(ByteRun {
         byte: high * 16 + low,
         count,
     })
 }
 
-fn add_run(runs: Runs, piece: &[u8]) -> Result<Runs, Stop>
+fn add_run(runs: ByteRuns, piece: &[u8]) -> Result<ByteRuns, Stop>
     requires { runs.total ≤ too_many }
     ensures value { Gives (λ more. more) result (run_step runs piece.now) }
     ensures total { runs.total ≡ min (sum_by (λ run. run.count) runs.found) too_many → IfOk result (λ more. more.total ≡ min (sum_by (λ run. run.count) more.found) too_many) }
@@ -92,24 +92,24 @@ fn add_run(runs: Runs, piece: &[u8]) -> Result<Runs, Stop>
     if u32::from(run.byte) == runs.last {
         return Err(Stop::Found(Why::Bytes));
     }
-    let Runs {
+    let ByteRuns {
         mut found,
         last: _,
         total,
     } = runs;
     found.push(run)?;
-    Ok(Runs {
+    Ok(ByteRuns {
         found,
         last: u32::from(run.byte),
         total: (total + run.count).min(TOO_MANY),
     })
 }
 
-fn add_runs(alloc: Global, pieces: &Words<'_>) -> Result<Runs, Stop>
+fn add_runs(alloc: Global, pieces: &Words<'_>) -> Result<ByteRuns, Stop>
     ensures value { Gives (λ runs. runs) result (each run_step no_runs pieces.now) }
     ensures total { IfOk result (λ runs. runs.total ≡ min (sum_by (λ run. run.count) runs.found) too_many) }
 {
-    let mut runs = Runs {
+    let mut runs = ByteRuns {
         found: Items::new(alloc),
         last: 256,
         total: 0,
@@ -122,7 +122,7 @@ fn add_runs(alloc: Global, pieces: &Words<'_>) -> Result<Runs, Stop>
 
 /// The runs that a word spells. Any other word is the fault `Bytes`. It takes memory by the length of the word, and not
 /// by the number of bytes that the word spells.
-pub fn read_runs(alloc: Global, word: &[u8]) -> Result<Runs, Stop>
+pub fn read_runs(alloc: Global, word: &[u8]) -> Result<ByteRuns, Stop>
     ensures value { Gives (λ runs. runs) result (runs_in word.now) }
     ensures total { IfOk result (λ runs. runs.total ≡ min (sum_by (λ run. run.count) runs.found) too_many) }
 {
@@ -130,7 +130,7 @@ pub fn read_runs(alloc: Global, word: &[u8]) -> Result<Runs, Stop>
     add_runs(alloc, &pieces)
 }
 
-fn spread_all(alloc: Global, runs: &[Run]) -> Result<Vec<u8>, Memory>
+fn spread_all(alloc: Global, runs: &[ByteRun]) -> Result<Vec<u8>, Memory>
     ensures bytes { IfOk result (λ bytes. bytes.items ≡ spread runs.now) }
     ensures total { IfOk result (λ bytes. length bytes.items ≡ sum_by (λ run. run.count) runs.now) }
 {
@@ -142,7 +142,7 @@ fn spread_all(alloc: Global, runs: &[Run]) -> Result<Vec<u8>, Memory>
 }
 
 /// The bytes of all runs.
-pub fn spread_runs(alloc: Global, runs: &Runs) -> Result<Bytes, Memory>
+pub fn spread_runs(alloc: Global, runs: &ByteRuns) -> Result<Bytes, Memory>
     ensures bytes { IfOk result (λ bytes. bytes ≡ spread runs.now.found) }
     ensures total { IfOk result (λ bytes. length bytes ≡ sum_by (λ run. run.count) runs.now.found) }
 {

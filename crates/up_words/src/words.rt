@@ -1,6 +1,6 @@
 ghost use Rattle.std.specs.Prelude.{◌≡◌, ◌<◌, [], map, length, IfOk, IfSome, MatchOption, ◌∷◌};
 ghost use Rattle.std.specs.List.{list_all};
-ghost use Rattle.up_words.specs.Steps.{Gives};
+ghost use Rattle.up_words.specs.ReadSteps.{Gives};
 ghost use Rattle.up_words.specs.Words.{split, is_word_byte, is_word, word_at, word_is, verb_is, words_in};
 
 use crate::fault::{Stop, Why};

@@ -1,4 +1,4 @@
-use Rattle.up_bank.proofs.Moments.{frames_differ}
+use Rattle.up_bank.proofs.ReturnLaws.{frames_differ}
 use Rattle.up_bank.proofs.laws.frames_differ.Goals as goal
 
 pub returns : goal.returns

@@ -1,4 +1,4 @@
-use Rattle.up_bank.proofs.Moments.{home_or_out}
+use Rattle.up_bank.proofs.ReturnLaws.{home_or_out}
 use Rattle.up_bank.proofs.laws.home_or_out.Goals as goal
 
 pub returns : goal.returns

@@ -1,4 +1,4 @@
-use Rattle.up_bank.proofs.Moments.{one_history}
+use Rattle.up_bank.proofs.ReturnLaws.{one_history}
 use Rattle.up_bank.proofs.laws.one_history.Goals as goal
 
 pub returns : goal.returns

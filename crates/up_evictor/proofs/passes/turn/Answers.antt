@@ -1,5 +1,5 @@
 use Rattle.std.proofs.Common.{ap, [], subst}
-use Rattle.up_evictor.proofs.Asking.{two_turns, first_breaks, second_breaks, at_error, then_ok, then_err, both_classes}
+use Rattle.up_evictor.proofs.PassSteps.{two_turns, first_breaks, second_breaks, at_error, then_ok, then_err, both_classes}
 use Rattle.up_evictor.specs.Levels.{age_limits}
 use Rattle.up_evictor.specs.Passes.{Passed, PassedInPart}
 use Rattle.up_evictor.proofs.passes.turn.Goals as goal
@@ -16,10 +16,10 @@ pub returns-in_ok-left-in-Critical-clause-ok : goal.returns-in_ok-left-in-Critic
 returns-in_ok-left-in-Critical-clause-ok g c =
     then_ok c.pass-in-Critical-2.result c.pass-in-Critical-2.ensures.ok
     (λ left other. two_turns _ _ _ _ _ _ _ _ (both_classes _ c.in-Critical.is) c.in_ok-left-in-Critical.ensures.ok
-    (subst (λ size. Passed c.in_ok-left-in-Critical.left left 0 size (g.H.Herd.culls c.pass-in-Critical.new.herd) (g.H.Herd.culls c.pass-in-Critical-2.new.herd)) c.in_ok-left-in-Critical.ensures.size other))
+    (subst (λ size. Passed c.in_ok-left-in-Critical.left left 0 size (g.H.Herd.reclaims c.pass-in-Critical.new.herd) (g.H.Herd.reclaims c.pass-in-Critical-2.new.herd)) c.in_ok-left-in-Critical.ensures.size other))
 
 pub returns-in_ok-left-in-Critical-clause-err : goal.returns-in_ok-left-in-Critical-clause-err
 returns-in_ok-left-in-Critical-clause-err g c =
     then_err c.pass-in-Critical-2.result c.pass-in-Critical-2.ensures.err
     (λ part. second_breaks _ _ _ _ _ _ _ (both_classes _ c.in-Critical.is) c.in_ok-left-in-Critical.ensures.ok
-    (subst (λ size. PassedInPart c.in_ok-left-in-Critical.left 0 size (g.H.Herd.culls c.pass-in-Critical.new.herd) (g.H.Herd.culls c.pass-in-Critical-2.new.herd)) c.in_ok-left-in-Critical.ensures.size part))
+    (subst (λ size. PassedInPart c.in_ok-left-in-Critical.left 0 size (g.H.Herd.reclaims c.pass-in-Critical.new.herd) (g.H.Herd.reclaims c.pass-in-Critical-2.new.herd)) c.in_ok-left-in-Critical.ensures.size part))

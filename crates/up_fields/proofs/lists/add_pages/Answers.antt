@@ -1,9 +1,9 @@
 use Rattle.std.proofs.Common.{[], arith, subst, ℕ, List}
 use Rattle.std.proofs.lemmas.Result.{err_from_is_err_and}
-use Rattle.up_words.specs.Steps.{Fails}
+use Rattle.up_words.specs.ReadSteps.{Fails}
 use Rattle.up_fields.specs.Limits.{all_pages}
 use Rattle.up_fields.specs.Fields.{list_step, page_in}
-use Rattle.up_words.proofs.Steps.{each_fails, each_more, each_done}
+use Rattle.up_words.proofs.ReadSteps.{each_fails, each_more, each_done}
 use Rattle.up_fields.proofs.lists.add_pages.Goals as goal
 
 pub returns-in_err-found : goal.returns-in_err-found

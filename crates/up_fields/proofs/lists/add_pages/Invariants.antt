@@ -1,5 +1,5 @@
 use Rattle.std.proofs.Common.{◌≡◌, [], drop}
-use Rattle.up_words.specs.Steps.{each}
+use Rattle.up_words.specs.ReadSteps.{each}
 use Rattle.up_fields.specs.Limits.{all_pages}
 use Rattle.up_fields.specs.Fields.{list_step, page_in}
 use Rattle.up_fields.proofs.lists.add_pages.Given as goal

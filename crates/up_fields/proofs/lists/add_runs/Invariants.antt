@@ -1,5 +1,5 @@
 use Rattle.std.proofs.Common.{◌≡◌, [], drop}
-use Rattle.up_words.specs.Steps.{each}
+use Rattle.up_words.specs.ReadSteps.{each}
 use Rattle.up_fields.specs.Fields.{list_step, run_of}
 use Rattle.up_fields.proofs.lists.add_runs.Given as goal
 

@@ -1,10 +1,10 @@
 use Rattle.std.proofs.Common.{[], arith, subst, ℕ, List}
 use Rattle.std.proofs.lemmas.Result.{err_from_is_err_and}
-use Rattle.up_words.specs.Steps.{Fails}
+use Rattle.up_words.specs.ReadSteps.{Fails}
 use Rattle.up_words.specs.Numbers.{number_between}
 use Rattle.up_fields.specs.Limits.{all_tickets}
 use Rattle.up_fields.specs.Fields.{list_step}
-use Rattle.up_words.proofs.Steps.{each_fails, each_more, each_done}
+use Rattle.up_words.proofs.ReadSteps.{each_fails, each_more, each_done}
 use Rattle.up_fields.proofs.lists.add_tickets.Goals as goal
 
 pub returns-in_err-found : goal.returns-in_err-found

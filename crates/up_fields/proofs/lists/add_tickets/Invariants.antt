@@ -1,5 +1,5 @@
 use Rattle.std.proofs.Common.{◌≡◌, [], drop}
-use Rattle.up_words.specs.Steps.{each}
+use Rattle.up_words.specs.ReadSteps.{each}
 use Rattle.up_words.specs.Numbers.{number_between}
 use Rattle.up_fields.specs.Limits.{all_tickets}
 use Rattle.up_fields.specs.Fields.{list_step}

@@ -1,4 +1,4 @@
-use Rattle.std.proofs.Common.{◌≡◌, ◌≤◌, List, ℕ, [], ◌++◌, length}
+use Rattle.std.proofs.Common.{◌≡◌, List, ℕ, [], ◌++◌, length}
 use Rattle.std.specs.Io.KnownBytes.{Appends}
 use Rattle.up_outside.proofs.sink.push_all.Given as goal
 
@@ -6,7 +6,7 @@ use Rattle.up_outside.proofs.sink.push_all.Given as goal
 abbrev pub invariant-loop-rest : goal.invariant-loop-rest
 invariant-loop-rest g l = record {
   done : (pushed : List ℕ) × (l.bytes ≡ pushed ++ l.rest) × Appends (g.K.Sink.written l.fn.sink) (g.K.Sink.written l.sink) pushed;
-  later : g.K.Sink.faults l.fn.sink ≤ g.K.Sink.faults l.sink;
+  stands : g.K.Sink.faults l.sink ≡ g.K.Sink.faults l.fn.sink;
   no_call : l.bytes ≡ [] → l.sink ≡ l.fn.sink;
 }
 

@@ -1,4 +1,4 @@
-use Rattle.std.proofs.Common.{◌+◌, ◌-◌, ◌≤◌, vec_len}
+use Rattle.std.proofs.Common.{◌≡◌, ◌+◌, ◌-◌, ◌≤◌, vec_len}
 use Rattle.std.specs.Io.KnownBytes.{Consumes}
 use Rattle.up_outside.proofs.source.read_to.Given as goal
 
@@ -6,7 +6,7 @@ abbrev pub invariant-loop-source : goal.invariant-loop-source
 invariant-loop-source g l = record {
   bound : vec_len l.read ≤ l.limit + 1;
   bytes : Consumes (g.S.Source.left l.fn.source) (g.S.Source.left l.source) l.read.items;
-  later : g.S.Source.faults l.fn.source ≤ g.S.Source.faults l.source;
+  stands : g.S.Source.faults l.source ≡ g.S.Source.faults l.fn.source;
 }
 
 abbrev pub decreases-loop-source : goal.decreases-loop-source

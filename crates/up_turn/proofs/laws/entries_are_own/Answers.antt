@@ -1,4 +1,4 @@
-use Rattle.up_turn.proofs.Moments.{entries_are_own}
+use Rattle.up_turn.proofs.TurnLaws.{entries_are_own}
 use Rattle.up_turn.proofs.laws.entries_are_own.Goals as goal
 
 pub returns : goal.returns

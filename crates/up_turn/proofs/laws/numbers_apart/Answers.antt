@@ -1,4 +1,4 @@
-use Rattle.up_turn.proofs.Moments.{numbers_apart}
+use Rattle.up_turn.proofs.TurnLaws.{numbers_apart}
 use Rattle.up_turn.proofs.laws.numbers_apart.Goals as goal
 
 pub returns : goal.returns

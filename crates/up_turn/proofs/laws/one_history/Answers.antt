@@ -1,4 +1,4 @@
-use Rattle.up_turn.proofs.Moments.{one_history}
+use Rattle.up_turn.proofs.TurnLaws.{one_history}
 use Rattle.up_turn.proofs.laws.one_history.Goals as goal
 
 pub returns : goal.returns

@@ -1,8 +1,8 @@
 use Rattle.std.proofs.Common.{[], arith, subst, ℕ, List}
 use Rattle.std.proofs.lemmas.Result.{err_from_is_err_and}
-use Rattle.up_words.specs.Steps.{Fails}
+use Rattle.up_words.specs.ReadSteps.{Fails}
 use Rattle.up_words.specs.Runs.{run_step}
-use Rattle.up_words.proofs.Steps.{each_fails, each_more, each_done}
+use Rattle.up_words.proofs.ReadSteps.{each_fails, each_more, each_done}
 use Rattle.up_words.proofs.runs.add_runs.Goals as goal
 
 pub returns-in_err-runs-clause-value : goal.returns-in_err-runs-clause-value

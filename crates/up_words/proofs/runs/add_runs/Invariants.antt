@@ -1,6 +1,6 @@
 use Rattle.std.proofs.Common.{◌≡◌, drop, min}
 use Rattle.std.specs.List.{sum_by}
-use Rattle.up_words.specs.Steps.{each}
+use Rattle.up_words.specs.ReadSteps.{each}
 use Rattle.up_words.specs.Runs.{run_step, no_runs, too_many}
 use Rattle.up_words.proofs.runs.add_runs.Given as goal
 

@@ -2,8 +2,8 @@ use Rattle.std.proofs.Common.{◌≡◌, List, Some, replicate, sym, subst, rule
 use Rattle.atomic_table.specs.Table.{opening}
 use Rattle.up_bank.specs.Bytes.{zero_bytes}
 use Rattle.up_bank.specs.Banked.{Banked, newcomer}
-use Rattle.up_bank.specs.Plays.{Slot}
-use Rattle.up_bank.proofs.Steps.{opens}
+use Rattle.up_bank.specs.SeatSteps.{Slot}
+use Rattle.up_bank.proofs.TableSteps.{opens}
 use Rattle.up_bank.proofs.bank.Bank.board.Goals as goal
 
 pub new-requires : goal.new-requires

@@ -2,7 +2,7 @@ use Rattle.std.proofs.Common.{◌≡◌, List, true, ap, ◌∙◌, sym, subst, 
 use Rattle.std.specs.List.{sum}
 use Rattle.up_bank.specs.Find.{Find, NoneTwice, Scanned}
 use Rattle.up_bank.specs.Standing.{frames_of}
-use Rattle.up_bank.proofs.Rises.{few_then}
+use Rattle.up_bank.proofs.RisingFinds.{few_then}
 use Rattle.up_bank.proofs.Scans.{claim_once, scan_once, scanned_by, none_home}
 use Rattle.up_bank.proofs.bank.Bank.claim.Goals as goal
 

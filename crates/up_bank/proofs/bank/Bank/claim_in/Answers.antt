@@ -2,7 +2,7 @@ use Rattle.std.proofs.Common.{◌≡◌, ◌≢◌, ℕ, subst, ◌+◌, ◌*◌
 use Rattle.std.specs.Int.{bit_at}
 use Rattle.std.proofs.lemmas.Nat.Bits.{shr_and_one}
 use Rattle.up_bank.specs.Scan.{Scanning}
-use Rattle.up_bank.proofs.Steps.{not_one}
+use Rattle.up_bank.proofs.TableSteps.{not_one}
 use Rattle.up_bank.proofs.Scans.{told_none, told_some, begins, empty_word, skips, after_miss, after_hit}
 use Rattle.up_bank.proofs.bank.Bank.claim_in.Goals as goal
 

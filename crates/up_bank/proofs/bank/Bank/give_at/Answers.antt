@@ -1,6 +1,6 @@
 use Rattle.std.proofs.Common.{[], rules, arith, ap, ◌∙◌, None}
 use Rattle.up_bank.proofs.Sizes.{Sized, sized}
-use Rattle.up_bank.proofs.Steps.{reclaims}
+use Rattle.up_bank.proofs.TableSteps.{reclaims}
 use Rattle.up_bank.proofs.Claims.{last_slot, restores_at, ready, puts}
 use Rattle.up_bank.proofs.Views.{regains}
 use Rattle.up_bank.proofs.bank.Bank.give_at.Goals as goal

@@ -1,6 +1,6 @@
 use Rattle.std.proofs.Common.{rules, arith, refl}
 use Rattle.up_bank.proofs.Sizes.{Sized, sized}
-use Rattle.up_bank.proofs.Steps.{looks}
+use Rattle.up_bank.proofs.TableSteps.{looks}
 use Rattle.up_bank.proofs.bank.Bank.look.Goals as goal
 
 pub load-requires : goal.load-requires

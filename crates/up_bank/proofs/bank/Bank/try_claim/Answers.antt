@@ -3,7 +3,7 @@ use Rattle.std.specs.Int.{bit_at}
 use Rattle.std.proofs.lemmas.Nat.Bits.{shr_and_one}
 use Rattle.up_bank.specs.Bytes.{bytes_of}
 use Rattle.up_bank.proofs.Sizes.{Sized, sized}
-use Rattle.up_bank.proofs.Steps.{clears}
+use Rattle.up_bank.proofs.TableSteps.{clears}
 use Rattle.up_bank.proofs.Claims.{hit_slot, emptied, vacates_at, drawn}
 use Rattle.up_bank.proofs.Views.{sheds}
 use Rattle.up_bank.proofs.bank.Bank.try_claim.Goals as goal

@@ -1,5 +1,5 @@
 use Rattle.std.proofs.Common.{◌∙◌, sym, arith, rules}
-use Rattle.up_num.proofs.Cuts.{pieces_more}
+use Rattle.up_num.proofs.PiecesOfAccesses.{pieces_more}
 use Rattle.up_num.proofs.pieces.PiecesIterator.next.Goals as goal
 
 pub returns-clause-steps : goal.returns-clause-steps

@@ -1,7 +1,7 @@
 use Rattle.std.proofs.Common.{◌≡◌, List, [], ◌∷◌, Option, sym, ap, subst}
 use Rattle.atomic_table.specs.Table.{opening}
 use Rattle.up_turn.specs.Turned.{Turned, newcomer}
-use Rattle.up_turn.proofs.Ends.{opens}
+use Rattle.up_turn.proofs.FirstAndLast.{opens}
 use Rattle.up_turn.proofs.turn.Turn.board.Goals as goal
 
 pub new-requires : goal.new-requires

@@ -1,4 +1,4 @@
-use Rattle.up_turn.proofs.Ends.{closes, is_some_of, slot_has, comes_out}
+use Rattle.up_turn.proofs.FirstAndLast.{closes, is_some_of, slot_has, comes_out}
 use Rattle.up_turn.proofs.turn.Turn.open.Goals as goal
 
 pub unwrap-requires : goal.unwrap-requires

@@ -41,7 +41,7 @@ pub record Counted (v : View) (count : ℕ) : Type 0 where
   pub rising : IsNonDecreasing (v.finds ++ count ∷ [])
 
 -- both lists of the views that were made one begin the list that was seen
-pub record Settled (v : View) : Type 0 where
+pub record Agreed (v : View) : Type 0 where
   pub one : Begins v.one v.seen
   pub other : Begins v.other v.seen
   pub tally : Tally v.numbers v.own v.seen
@@ -50,14 +50,15 @@ module _ {S : Type 0} where
   abbrev pub fronted : Step (Option S) → Me (Option S) View → ℕ → Me (Option S) View → Type 0
   fronted st m was m' = (m' ≡ (found m.0 (was / 2), m.1)) × Counted m.0 (was / 2)
 
-  abbrev pub settled : Step (Option S) → Me (Option S) View → ℕ → Me (Option S) View → Type 0
-  settled st m was m' = (m' ≡ m) × Settled m.0
+  abbrev pub agreed : Step (Option S) → Me (Option S) View → ℕ → Me (Option S) View → Type 0
+  agreed st m was m' = (m' ≡ m) × Agreed m.0
 
   -- the seat is inside, and has the slot with the value
   pub record Entered (kin : S → Type 0) (list : S → List Entry) (m m' : Me (Option S) View) : Type 0 where
     pub value : S
     pub fits : kin value
     pub later : Begins m.0.seen (list value)
+    pub was : Tally m.0.numbers m.0.own m.0.seen
     pub tally : Tally m.0.numbers m.0.own (list value)
     pub finds : All (λ n. n ≤ length (list value)) m.0.finds
     pub is : m' ≡ (came_in m.0 (list value), (0, Some value) ∷ m.1)
@@ -71,6 +72,7 @@ module _ {S : Type 0} where
   -- the seat is inside, and its slot is empty, since the value is in hand
   pub record InHand (list : S → List Entry) (v : View) (m' : Me (Option S) View) (value : S) : Type 0 where
     pub later : Begins v.seen (list value)
+    pub was : Tally v.numbers v.own v.seen
     pub tally : Tally v.numbers v.own (list value)
     pub finds : All (λ n. n ≤ length (list value)) v.finds
     pub is : m' ≡ (came_in v (list value), (0, None) ∷ [])

@@ -1,5 +1,5 @@
 use Rattle.up_bank.specs.Bytes.{zero_bytes}
-use Rattle.up_bank.proofs.block.Block.new.Goals as goal
+use Rattle.up_bank.proofs.page_bytes.PageBytes.new.Goals as goal
 
 pub returns : goal.returns
 unfolding zero_bytes

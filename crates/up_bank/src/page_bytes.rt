@@ -7,11 +7,11 @@ use std::marker::Model;
 
 /// The bytes of a frame.
 #[derive(Drop)]
-pub struct Block {
+pub struct PageBytes {
     bytes: Box<[u8; 4096]>,
 }
 
-impl Model for Block {
+impl Model for PageBytes {
     ghost use Rattle.std.specs.Prelude.{ℕ, List, ◌≡◌, length};
 
     ghost Value = { List ℕ };
@@ -21,12 +21,12 @@ impl Model for Block {
     ghost invariant = { λ block. length block.bytes.value ≡ 4096 };
 }
 
-impl Block {
-    pub fn new(alloc: Global) -> Result<Block, Memory>
+impl PageBytes {
+    pub fn new(alloc: Global) -> Result<PageBytes, Memory>
         ensures { IfOk result (λ block. block ≡ zero_bytes) }
     {
         let bytes = Box::new(alloc, [0; 4096])?;
-        Ok(Block { bytes })
+        Ok(PageBytes { bytes })
     }
 
     pub fn as_slice(&self) -> &[u8]

@@ -5,7 +5,7 @@ use native.Mathlib.Decide.{ℕ_discrete}
 use Rattle.up_bank.specs.Bytes.{Given, Extends}
 use Rattle.up_bank.specs.Banked.{Vault, home_bit}
 use Rattle.up_bank.specs.Laws.{IsWithOne, Whereabouts, at_home, out, in_hand, HomeOrOut, FramesDiffer, OneHistory, LastReturnCounts}
-use Rattle.up_bank.proofs.Steps.{not_one, newest, older}
+use Rattle.up_bank.proofs.TableSteps.{not_one, newest, older}
 
 -- a seat with a frame is a frame's own, or that of a call
 placed : (number : ℕ) (s : Vault) (gives : List Given) (b : Bool) → IsWithOne number s b → Whereabouts number s gives

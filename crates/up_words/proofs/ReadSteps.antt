@@ -2,7 +2,7 @@
 use Rattle.std.proofs.Common.{◌≡◌, ℕ, ◌+◌, ◌<◌, ◌≤◌, eqb, List, [], ◌∷◌, length, get_or, drop, Result, Ok, Err, refl, sym, ap, ◌∙◌, arith}
 use Rattle.std.proofs.lemmas.List.{at_drop_more, at_drop_all}
 use Rattle.std.proofs.lemmas.List.Splits.{length-slice_split}
-use Rattle.up_words.specs.Steps.{◌>>=◌, each, at_line, lines_from, Fails, fault_of, FailsText}
+use Rattle.up_words.specs.ReadSteps.{◌>>=◌, each, at_line, lines_from, Fails, fault_of, FailsText}
 use Rattle.up_words.specs.Words.{split}
 use Rattle.up_words.specs.declared.fault.Stop.{Stop}
 use Rattle.up_words.specs.declared.fault.Stop.TheVariants.{Found, Memory}

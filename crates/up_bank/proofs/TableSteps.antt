@@ -14,11 +14,11 @@ use Rattle.atomic_table.proofs.Lists.{set_here, set_else}
 use Rattle.up_bank.specs.Bytes.{Given, zero_bytes, bytes_of, Extends}
 use Rattle.up_bank.specs.Find.{words_of}
 use Rattle.up_bank.specs.Banked.{Vault, home_bit, empty_bit, Has, Alone, Met, Banked, newcomer}
-use Rattle.up_bank.specs.Plays.{Slot, Sat, mask_of, saw, fetched, AsKnown, Learns, looked, took, Hit, cleared, vacated, reclaimed, gave, Put, restored}
+use Rattle.up_bank.specs.SeatSteps.{Slot, SeatState, mask_of, saw, fetched, AsKnown, Learns, looked, took, Hit, cleared, vacated, reclaimed, gave, Put, restored}
 use Rattle.up_bank.specs.declared.view.View.{View}
 use Rattle.up_bank.specs.declared.kind.FrameKind.{FrameKind}
 use Rattle.up_bank.proofs.Lists.{extends_none, bit_of, OthersStay, clear_stays, clear_here, set_stays, set_one, one_mask, homes_else, home_here, empties_apart, empties_else, empty_here, homes_apart}
-use Rattle.up_bank.proofs.Moves.{Moves, moved, SameHand, stays, extends_more}
+use Rattle.up_bank.proofs.OneFrameMoves.{Moves, moved, SameHand, stays, extends_more}
 
 -- a bit that isn't 1 is 0
 pub not_one : (n i : ℕ) → bit_at n i ≢ 1 → bit_at n i ≡ 0
@@ -51,7 +51,7 @@ module _ (frames : ℕ) (s : Vault) (r : Banked frames s) where
   learns : (id : ℕ) (v : View) → get_elem? s.views id ≡ some v → Learns v r.gives
   learns id v at = record { later = r.seen id v at; alone = λ sole. sym (r.sole id v at sole).all }
 
-pub looks : (frames slots id word : ℕ) (me : Sat) → me.0.rests ≡ false → Allows (Banked frames) slots id me (word * 2) (λ n. n) (looked (step slots (word * 2) 0 0 none) me)
+pub looks : (frames slots id word : ℕ) (me : SeatState) → me.0.rests ≡ false → Allows (Banked frames) slots id me (word * 2) (λ n. n) (looked (step slots (word * 2) 0 0 none) me)
 looks frames slots id word me acts s r _ at _ = let was : ℕ = get_or s.words (word * 2) 0 in let w : View = saw me.0 word was in
     let same : SameHand me.0 w = record { has = refl; empty = refl; sole = refl; home = refl; gives = refl; one = refl; other = refl; token = refl } in (
       w,
@@ -59,11 +59,11 @@ looks frames slots id word me acts s r _ at _ = let was : ℕ = get_or s.words (
       tt,
       subst (λ (ws : List ℕ). Banked frames record { words = ws; homes = s.homes; views = set s.views id w }) (sym (set-get_or s.words (word * 2) 0))
           (stays frames id me.0 w s r at acts s.words refl (λ q. refl) (λ q. refl) same),
-      λ q e. let here : word ≡ q = omega arith in subst (λ (z : ℕ). ((let m : Sat = (w, me.1) in m) ≡ (saw me.0 z was, me.1)) × AsKnown me.0 z was) here (refl, as_known frames s r id word me.0 at),
+      λ q e. let here : word ≡ q = omega arith in subst (λ (z : ℕ). ((let m : SeatState = (w, me.1) in m) ≡ (saw me.0 z was, me.1)) × AsKnown me.0 z was) here (refl, as_known frames s r id word me.0 at),
     )
 
 -- the frame was at home
-module _ (frames id k : ℕ) (me : Sat) (inside : k < frames) (acts : me.0.rests ≡ false) (bare : me.0.has ≡ 0) (s : Vault) (r : Banked frames s) (at : get_elem? s.views id ≡ some me.0) where
+module _ (frames id k : ℕ) (me : SeatState) (inside : k < frames) (acts : me.0.rests ≡ false) (bare : me.0.has ≡ 0) (s : Vault) (r : Banked frames s) (at : get_elem? s.views id ≡ some me.0) where
   abbrev found : ℕ
   found = get_or s.words (k / 64 * 2) 0
 
@@ -112,11 +112,11 @@ module _ (frames id k : ℕ) (me : Sat) (inside : k < frames) (acts : me.0.rests
       (λ other. homes_else s.words k (bit_and found (mask_of k)) there q (clear_stays found k) other))
       (λ q. empties_apart s.words k (bit_and found (mask_of k)) there q) same
 
-pub clears : (frames slots id k : ℕ) (me : Sat) → k < frames → me.0.rests ≡ false → me.0.has ≡ 0
+pub clears : (frames slots id k : ℕ) (me : SeatState) → k < frames → me.0.rests ≡ false → me.0.has ≡ 0
     → Allows (Banked frames) slots id me (k / 64 * 2) (λ n. bit_and n (mask_of k)) (cleared (step slots (k / 64 * 2) (mask_of k) 0 none) me)
 clears frames slots id k me inside acts bare s r _ at _ = let was : ℕ = get_or s.words (k / 64 * 2) 0 in
     let known : AsKnown me.0 (k / 64) was = as_known frames s r id (k / 64) me.0 at in dite (ℕ_discrete (bit_at was (k % 64)) 1)
-    (λ (one : bit_at was (k % 64) ≡ 1). let m' : Sat = (took me.0 k was r.gives, (k, Some (bytes_of r.gives k)) ∷ me.1) in
+    (λ (one : bit_at was (k % 64) ≡ 1). let m' : SeatState = (took me.0 k was r.gives, (k, Some (bytes_of r.gives k)) ∷ me.1) in
     let hit : Hit k me was m' = record { gives = r.gives; learns = learns frames s r id me.0 at; is = refl } in (
       took me.0 k was r.gives,
       takes k (Some (bytes_of r.gives k)),
@@ -126,7 +126,7 @@ clears frames slots id k me inside acts bare s r _ at _ = let was : ℕ = get_or
           subst (λ (z : ℕ). AsKnown me.0 (z / 64) was × (bit_at was (z % 64) ≡ 1 → Hit z me was m') × (bit_at was (z % 64) ≡ 0 → m' ≡ (fetched me.0 z was, me.1))) (sym same)
           (known, (λ _. hit), (λ zero_bit. absurd (omega arith))),
     ))
-    (λ other. let zero_bit : bit_at was (k % 64) ≡ 0 = not_one was (k % 64) other in let m' : Sat = (fetched me.0 k was, me.1) in (
+    (λ other. let zero_bit : bit_at was (k % 64) ≡ 0 = not_one was (k % 64) other in let m' : SeatState = (fetched me.0 k was, me.1) in (
       fetched me.0 k was,
       keeps,
       tt,
@@ -213,7 +213,7 @@ module _ (frames id k : ℕ) (v : View) (has : v.has ≡ suc k) (acts : v.rests 
       }
 
 pub vacates : (frames slots id k : ℕ) (v : View) (cs : List (ℕ × Slot)) → v.has ≡ suc k → v.rests ≡ false
-    → (let me : Sat = (v, (k, None) ∷ cs) in Allows (Banked frames) slots id me (k / 64 * 2 + 1) (λ n. bit_or n (bit_of k)) (vacated (step slots (k / 64 * 2 + 1) (bit_of k) 0 none) me))
+    → (let me : SeatState = (v, (k, None) ∷ cs) in Allows (Banked frames) slots id me (k / 64 * 2 + 1) (λ n. bit_or n (bit_of k)) (vacated (step slots (k / 64 * 2 + 1) (bit_of k) 0 none) me))
 vacates frames slots id k v cs has acts s r _ at _ = let was : ℕ = get_or s.words (k / 64 * 2 + 1) 0 in (
   record v { empty = 1 },
   gives,
@@ -223,10 +223,10 @@ vacates frames slots id k v cs has acts s r _ at _ = let was : ℕ = get_or s.wo
   refl,
 )
 
-pub reclaims : (frames slots id k : ℕ) (me : Sat) → me.0.has ≡ suc k → me.0.empty ≡ 1 → me.0.rests ≡ false
+pub reclaims : (frames slots id k : ℕ) (me : SeatState) → me.0.has ≡ suc k → me.0.empty ≡ 1 → me.0.rests ≡ false
     → Allows (Banked frames) slots id me (k / 64 * 2 + 1) (λ n. bit_and n (mask_of k)) (reclaimed (step slots (k / 64 * 2 + 1) (mask_of k) 0 none) me)
 reclaims frames slots id k me has full acts s r _ at _ = let was : ℕ = get_or s.words (k / 64 * 2 + 1) 0 in let h = r.each id me.0 at k has in
-    let m' : Sat = (record me.0 { empty = 0 }, (k, None) ∷ me.1) in (
+    let m' : SeatState = (record me.0 { empty = 0 }, (k, None) ∷ me.1) in (
       record me.0 { empty = 0 },
       takes k None,
       r.empty k h.within (h.empty ∙ full),
@@ -245,9 +245,9 @@ unfolding first_bytes
 same_bytes k q b d cs ds e = ap first_bytes e
 
 pub restores : (frames slots id k : ℕ) (v : View) (b : List ℕ) (cs : List (ℕ × Slot)) → v.has ≡ suc k → v.empty ≡ 0 → v.rests ≡ false
-    → (let me : Sat = (v, (k, Some b) ∷ cs) in Allows (Banked frames) slots id me (k / 64 * 2) (λ n. bit_or n (bit_of k)) (restored (step slots (k / 64 * 2) (bit_of k) 0 none) me))
-restores frames slots id k v b cs has held acts s r _ at _ = let me : Sat = (v, (k, Some b) ∷ cs) in let was : ℕ = get_or s.words (k / 64 * 2) 0 in let h = r.each id v at k has in
-    let m' : Sat = (gave v k was b r.gives, cs) in
+    → (let me : SeatState = (v, (k, Some b) ∷ cs) in Allows (Banked frames) slots id me (k / 64 * 2) (λ n. bit_or n (bit_of k)) (restored (step slots (k / 64 * 2) (bit_of k) 0 none) me))
+restores frames slots id k v b cs has held acts s r _ at _ = let me : SeatState = (v, (k, Some b) ∷ cs) in let was : ℕ = get_or s.words (k / 64 * 2) 0 in let h = r.each id v at k has in
+    let m' : SeatState = (gave v k was b r.gives, cs) in
     let done : Put k b me was m' = record { gives = r.gives; learns = learns frames s r id v at; gone = h.gone; known = as_known frames s r id (k / 64) v at; is = refl } in (
       gave v k was b r.gives,
       gives,

@@ -5,8 +5,8 @@ use Rattle.std.proofs.lemmas.Bool.Decides.{nat_tests}
 use Rattle.std.proofs.lemmas.List.{same_lists, get_or_default, set-set, set-get_or}
 use mathlib.Core.Logic.{dite}
 use native.Mathlib.Decide.{ℕ_discrete}
-use Rattle.up_disk.specs.declared.mem.Did.{Did}
-use Rattle.up_disk.specs.declared.mem.Did.TheVariants.{Put, Synced}
+use Rattle.up_disk.specs.declared.mem.DiskCall.{DiskCall}
+use Rattle.up_disk.specs.declared.mem.DiskCall.TheVariants.{Put, Synced}
 use Rattle.up_disk.specs.Left.{OnlyLeaves, Wrote, AddsNone, AddsWritten}
 use Rattle.up_disk.specs.Platter.{blocks_after, contents_since, IsAmong, LeftNow, LeftSince}
 use Rattle.up_disk.specs.LeftLaws.{blocks_whole, blocks_left, left_since, left_earlier}
@@ -29,7 +29,7 @@ among_other true block content contents is among = cc
 among_other false block content contents is among = among
 
 -- an image with one content put in place of another that may be left too
-pub put_back : (start : List (List ℕ)) (done : List Did) (image : List (List ℕ)) (number : ℕ) (content : List ℕ) → length image ≡ length start
+pub put_back : (start : List (List ℕ)) (done : List DiskCall) (image : List (List ℕ)) (number : ℕ) (content : List ℕ) → length image ≡ length start
     → ((p : ℕ) → p < length start → p ≢ number → IsAmong (contents_since start done p) (get_or image p []))
     → (number < length start → IsAmong (contents_since start done number) content) → LeftNow start done (set image number content)
 put_back start done image number content whole others here = (
@@ -42,7 +42,7 @@ put_back start done image number content whole others here = (
 )
 
 -- what a stop just after a write may leave
-module _ (start : List (List ℕ)) (before : List Did) (number : ℕ) (block : List ℕ) (good : Bool) (image : List (List ℕ)) (left : LeftNow start (Put number block good ∷ before) image) where
+module _ (start : List (List ℕ)) (before : List DiskCall) (number : ℕ) (block : List ℕ) (good : Bool) (image : List (List ℕ)) (left : LeftNow start (Put number block good ∷ before) image) where
   others : (p : ℕ) → p < length start → p ≢ number → IsAmong (contents_since start before p) (get_or image p [])
   others p low other = among_other (number == p) block (get_or image p []) (contents_since start before p) (other_number number p (λ same. other (sym same))) (left.1 p low)
 
@@ -76,11 +76,11 @@ module _ (start : List (List ℕ)) (before : List Did) (number : ℕ) (block : L
   left_by_write = ⊎_elim inside (λ (high : length start ≤ number). inl (outside high)) (cases_lt number (length start))
 
 -- what may be left now may be left since any time up to now
-pub since_now : (start : List (List ℕ)) (done : List Did) (since : ℕ) (image : List (List ℕ)) → since ≤ length done → LeftNow start done image → LeftSince start done since image
+pub since_now : (start : List (List ℕ)) (done : List DiskCall) (since : ℕ) (image : List (List ℕ)) → since ≤ length done → LeftNow start done image → LeftSince start done since image
 since_now start done since image low left = left_earlier start done since (length done) image low (left_since start done image left)
 
 -- a write adds at most images of now with the block written in them
-pub put_adds : (start : List (List ℕ)) (before : List Did) (number : ℕ) (block : List ℕ) (good : Bool)
+pub put_adds : (start : List (List ℕ)) (before : List DiskCall) (number : ℕ) (block : List ℕ) (good : Bool)
     → AddsWritten (LeftSince start before) (LeftSince start (Put number block good ∷ before)) (length before) number block
 put_adds start before number block good since image low left = ⊎_elim
     (λ (now : (since ≤ length (Put number block good ∷ before)) × LeftNow start (Put number block good ∷ before) image).
@@ -96,32 +96,32 @@ too_high : (since time : ℕ) → since ≤ time → time < since → ⊥
 too_high since time low high = omega arith
 
 -- what may be left after a sync
-pub left_synced : (start : List (List ℕ)) (before : List Did) (image : List (List ℕ)) → LeftNow start (Synced ∷ before) image → image ≡ blocks_after start before
+pub left_synced : (start : List (List ℕ)) (before : List DiskCall) (image : List (List ℕ)) → LeftNow start (Synced ∷ before) image → image ≡ blocks_after start before
 left_synced start before image left = same_lists image (blocks_after start before) (left.0 ∙ sym (blocks_whole start before))
     (λ k d low. get_or_default image k d [] low ∙ (only_one (get_or image k []) (get_or (blocks_after start before) k []) (left.1 k (let inside : k < length start = omega arith in inside))
     ∙ sym (get_or_default (blocks_after start before) k d [] (let all : length (blocks_after start before) ≡ length start = blocks_whole start before in let inside : k < length (blocks_after start before) = omega arith in inside))))
 
 -- a sync adds none
-pub sync_adds : (start : List (List ℕ)) (before : List Did) → AddsNone (LeftSince start before) (LeftSince start (Synced ∷ before)) (length before)
+pub sync_adds : (start : List (List ℕ)) (before : List DiskCall) → AddsNone (LeftSince start before) (LeftSince start (Synced ∷ before)) (length before)
 sync_adds start before since image low left = ⊎_elim
     (λ (now : (since ≤ length (Synced ∷ before)) × LeftNow start (Synced ∷ before) image).
     subst (LeftSince start before since) (sym (left_synced start before image now.1)) (since_now start before since (blocks_after start before) low (blocks_left start before)))
     (λ (once : LeftSince start before since image). once) left
 
 -- no image may be left since a time to come
-pub none_to_come : (start : List (List ℕ)) (done : List Did) (since : ℕ) (image : List (List ℕ)) → length done < since → LeftSince start done since image → ⊥
+pub none_to_come : (start : List (List ℕ)) (done : List DiskCall) (since : ℕ) (image : List (List ℕ)) → length done < since → LeftSince start done since image → ⊥
 none_to_come start [] since image high left = let low : since ≤ 0 = left.0 in omega arith
 none_to_come start (did ∷ before) since image high left = ⊎_elim
     (λ (now : (since ≤ length (did ∷ before)) × LeftNow start (did ∷ before) image). too_high since (length (did ∷ before)) now.0 high)
     (λ (once : LeftSince start before since image). none_to_come start before since image (omega arith) once) left
 
 -- after a sync the blocks alone may be left
-pub sync_keeps : (start : List (List ℕ)) (before : List Did) → OnlyLeaves (LeftSince start (Synced ∷ before) (length (Synced ∷ before))) (blocks_after start before)
+pub sync_keeps : (start : List (List ℕ)) (before : List DiskCall) → OnlyLeaves (LeftSince start (Synced ∷ before) (length (Synced ∷ before))) (blocks_after start before)
 sync_keeps start before image left = ⊎_elim
     (λ (now : (length (Synced ∷ before) ≤ length (Synced ∷ before)) × LeftNow start (Synced ∷ before) image). left_synced start before image now.1)
     (λ (once : LeftSince start before (length (Synced ∷ before)) image). absurd (none_to_come start before (length (Synced ∷ before)) image (omega arith) once)) left
 
 -- a block that was written well
-pub put_content : (start : List (List ℕ)) (before : List Did) (number : ℕ) (block : List ℕ) → number < length start → get_or (blocks_after start (Put number block true ∷ before)) number [] ≡ block
+pub put_content : (start : List (List ℕ)) (before : List DiskCall) (number : ℕ) (block : List ℕ) → number < length start → get_or (blocks_after start (Put number block true ∷ before)) number [] ≡ block
 put_content start before number block low =
     let all : length (blocks_after start before) ≡ length start = blocks_whole start before in get_or-set_same (blocks_after start before) number block [] (omega arith)

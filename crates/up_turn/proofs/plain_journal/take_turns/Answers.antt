@@ -1,6 +1,6 @@
 use Rattle.std.proofs.Common.{◌≡◌, [], rules, ap}
-use Rattle.up_turn.proofs.Ends.{two_entries}
-use Rattle.up_turn.proofs.sheet.take_turns.Goals as goal
+use Rattle.up_turn.proofs.FirstAndLast.{two_entries}
+use Rattle.up_turn.proofs.plain_journal.take_turns.Goals as goal
 
 pub returns-clause-count : goal.returns-clause-count
 returns-clause-count g c = let none : c.split-second.new.pass.own ≡ [] = search rules in let nothing : c.split-second.result.own ≡ [] = search rules in

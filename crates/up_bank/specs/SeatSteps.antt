@@ -10,11 +10,11 @@ use Rattle.up_bank.specs.declared.view.View.{View}
 abbrev pub Slot : Type 0
 Slot = Option (List ℕ)
 
-abbrev pub Sat : Type 0
-Sat = Me Slot View
+abbrev pub SeatState : Type 0
+SeatState = Me Slot View
 
-abbrev pub Stepped : Type 0
-Stepped = Step Slot
+abbrev pub TableStep : Type 0
+TableStep = Step Slot
 
 -- all bits but the frame's
 abbrev pub mask_of : ℕ → ℕ
@@ -37,40 +37,40 @@ pub record Learns (v : View) (gives : List Given) : Type 0 where
   pub later : Extends v.gives gives
   pub alone : v.sole ≡ true → gives ≡ v.gives
 
-abbrev pub looked : Stepped → Sat → ℕ → Sat → Type 0
+abbrev pub looked : TableStep → SeatState → ℕ → SeatState → Type 0
 looked st m was m' = (word : ℕ) → st.word ≡ word * 2 → (m' ≡ (saw m.0 word was, m.1)) × AsKnown m.0 word was
 
 -- the seat has the frame, whose bytes are those of its last return
 abbrev pub took : View → ℕ → ℕ → List Given → View
 took v number was gives = record (fetched v number was) { has = suc number; empty = 0; home = slice_set v.home number 0; gives = gives }
 
-pub record Hit (number : ℕ) (m : Sat) (was : ℕ) (m' : Sat) : Type 0 where
+pub record Hit (number : ℕ) (m : SeatState) (was : ℕ) (m' : SeatState) : Type 0 where
   pub gives : List Given
   pub learns : Learns m.0 gives
   pub is : m' ≡ (took m.0 number was gives, (number, Some (bytes_of gives number)) ∷ m.1)
 
-abbrev pub cleared : Stepped → Sat → ℕ → Sat → Type 0
+abbrev pub cleared : TableStep → SeatState → ℕ → SeatState → Type 0
 cleared st m was m' = (number : ℕ) → st.word ≡ number / 64 * 2 → st.first ≡ mask_of number
     → AsKnown m.0 (number / 64) was × (bit_at was (number % 64) ≡ 1 → Hit number m was m') × (bit_at was (number % 64) ≡ 0 → m' ≡ (fetched m.0 number was, m.1))
 
-abbrev pub vacated : Stepped → Sat → ℕ → Sat → Type 0
+abbrev pub vacated : TableStep → SeatState → ℕ → SeatState → Type 0
 vacated st m was m' = m' ≡ (record m.0 { empty = 1 }, rest m.1)
 
-abbrev pub reclaimed : Stepped → Sat → ℕ → Sat → Type 0
+abbrev pub reclaimed : TableStep → SeatState → ℕ → SeatState → Type 0
 reclaimed st m was m' = (number : ℕ) → m.0.has ≡ suc number → m' ≡ (record m.0 { empty = 0 }, (number, None) ∷ m.1)
 
 -- the seat brought the frame home with these bytes
 abbrev pub gave : View → ℕ → ℕ → List ℕ → List Given → View
 gave v number was bytes gives = record (fetched v number was) { has = 0; empty = 0; home = slice_set v.home number 1; gives = record { number = number; bytes = bytes } ∷ gives }
 
-pub record Put (number : ℕ) (bytes : List ℕ) (m : Sat) (was : ℕ) (m' : Sat) : Type 0 where
+pub record Put (number : ℕ) (bytes : List ℕ) (m : SeatState) (was : ℕ) (m' : SeatState) : Type 0 where
   pub gives : List Given
   pub learns : Learns m.0 gives
   pub gone : bit_at was (number % 64) ≡ 0
   pub known : AsKnown m.0 (number / 64) was
   pub is : m' ≡ (gave m.0 number was bytes gives, rest m.1)
 
-abbrev pub restored : Stepped → Sat → ℕ → Sat → Type 0
+abbrev pub restored : TableStep → SeatState → ℕ → SeatState → Type 0
 restored st m was m' = (number : ℕ) (bytes : List ℕ) → m.0.has ≡ suc number → m.1 ≡ (number, Some bytes) ∷ rest m.1 → Put number bytes m was m'
 
 -- a seat without the frame that it had
@@ -102,11 +102,11 @@ abbrev pub spent : View
 spent = record { has = 0; empty = 0; rests = true; sole = false; kind = Ordinary; home = []; finds = []; gives = []; one = []; other = []; lent = false; token = 0 }
 
 -- a load of no home bits, after a join: the returns of both seats are known
-abbrev pub settled : Stepped → Sat → ℕ → Sat → Type 0
-settled st m was m' = (m' ≡ m) × Met m.0
+abbrev pub agreed : TableStep → SeatState → ℕ → SeatState → Type 0
+agreed st m was m' = (m' ≡ m) × Met m.0
 
 -- a load of no home bits, with a token in hand: it isn't of the frame that the seat has
-abbrev pub told_apart : Stepped → Sat → ℕ → Sat → Type 0
+abbrev pub told_apart : TableStep → SeatState → ℕ → SeatState → Type 0
 told_apart st m was m' = (m' ≡ m) × ((number : ℕ) → m.0.token ≡ suc number → m.0.has ≢ suc number)
 
 -- a frame's seat that lends, and the token of its frame

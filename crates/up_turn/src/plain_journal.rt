@@ -13,19 +13,17 @@ use up_num::Memory;
 
 /// Entries, and a number that never changes.
 #[derive(Drop)]
-pub struct Sheet {
+pub struct PlainJournal {
     pub number: u32,
     pub entries: Vec<Entry>,
 }
 
-impl Chronicle for Sheet {
+impl Chronicle for PlainJournal {
     type Origin = u32;
 
-    ghost use Rattle.std.specs.Prelude.{};
+    ghost origin = { λ journal. journal.number };
 
-    ghost origin = { λ sheet. sheet.number };
-
-    ghost list = { λ sheet. sheet.entries.items };
+    ghost list = { λ journal. journal.entries.items };
 
     fn count(&self) -> u64 {
         self.entries.len() as u64
@@ -35,8 +33,8 @@ impl Chronicle for Sheet {
 /// Enters, appends an entry, and leaves.
 pub fn add<R: Wait>(
     rt: &R,
-    turn: &Turn<Sheet>,
-    pass: &mut Pass<Sheet>,
+    turn: &Turn<PlainJournal>,
+    pass: &mut Pass<PlainJournal>,
     entry: Entry,
 ) -> Result<(), Memory>
     requires turn { pass.old.turn ≡ turn.now.table }
@@ -54,17 +52,22 @@ pub fn add<R: Wait>(
 }
 
 /// Two actors take a turn each, which `close` ends.
-pub fn take_turns<R: Wait>(rt: &R, alloc: Global, one: Entry, other: Entry) -> Result<Sheet, Memory>
+pub fn take_turns<R: Wait>(
+    rt: &R,
+    alloc: Global,
+    one: Entry,
+    other: Entry,
+) -> Result<PlainJournal, Memory>
     requires { (one.who ≡ 0) × (other.who ≡ 1) }
-    ensures count { IfOk result (λ sheet. length sheet.entries.items ≡ 2) }
-    ensures one { IfOk result (λ sheet. entries_by 0 sheet.entries.items ≡ one ∷ []) }
-    ensures other { IfOk result (λ sheet. entries_by 1 sheet.entries.items ≡ other ∷ []) }
+    ensures count { IfOk result (λ journal. length journal.entries.items ≡ 2) }
+    ensures one { IfOk result (λ journal. entries_by 0 journal.entries.items ≡ one ∷ []) }
+    ensures other { IfOk result (λ journal. entries_by 1 journal.entries.items ≡ other ∷ []) }
 {
-    let sheet = Sheet {
+    let journal = PlainJournal {
         number: 0,
         entries: Vec::new(alloc),
     };
-    let (turn, mut first) = match Turn::new(alloc, sheet, 2) {
+    let (turn, mut first) = match Turn::new(alloc, journal, 2) {
         Ok(made) => made,
         Err((memory, _)) => return Err(memory),
     };
