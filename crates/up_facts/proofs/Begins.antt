@@ -10,7 +10,7 @@ use Rattle.up_model.specs.States.{plain}
 use Rattle.up_model.specs.declared.entry.Birth.{Birth}
 use Rattle.up_model.specs.declared.entry.Entry.{Entry}
 use Rattle.up_model.proofs.Equations.{begun_by_is, begun_by_none}
-use Rattle.up_model.proofs.Numbered.{plain_before}
+use Rattle.up_model.proofs.BeginNumbers.{plain_before}
 use Rattle.up_facts.specs.Seen.{since, until, counts_within, begun_within}
 
 -- both numbers are at most the number of entries

@@ -1,5 +1,6 @@
 //! What an object's entries so far tell of it and of one page: its size, its actors, its bytes and marks, pins, uses, and what
 //! the accesses that wait ask for. Each looks back over the entries, oldest first.
+//! Used through `up_journal`, by `judge_journals`: each judgement by looking back.
 #![tactic(auto)]
 
 mod asking;

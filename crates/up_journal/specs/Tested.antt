@@ -8,7 +8,7 @@ use Rattle.up_model.specs.declared.entry.Birth.{Birth}
 use Rattle.up_model.specs.declared.entry.Entry.{Entry}
 use Rattle.up_journal.specs.declared.slow.ranges.Test.{Test}
 use Rattle.up_journal.specs.declared.slow.ranges.Test.TheVariants.{Absent, Pinned, Unpinned, FullOfPins, NeedsOwnFrame, Loaned, LoanedFirm, LoanedLoose, PinnedFrom, Reclaimable}
-use Rattle.up_journal.specs.declared.slow.ranges.Run.{Run}
+use Rattle.up_journal.specs.declared.slow.ranges.OpenRun.{OpenRun}
 
 -- the pages that pass a test
 abbrev pub test_of : Birth → List Entry → Test → ℕ → Bool
@@ -29,5 +29,5 @@ HasPages None count = Unit {0}
 HasPages (Some blank) count = 0 < count
 
 -- the run after one page more
-abbrev pub run_after : Option Bool → Run → Run
+abbrev pub run_after : Option Bool → OpenRun → OpenRun
 run_after kind run = cond (same_kind_of_page kind run.kind) (record { kind = run.kind; count = run.count + 1 }) (record { kind = kind; count = 1 })

@@ -20,7 +20,7 @@ use Rattle.up_model.specs.declared.entry.Call.{Call}
 use Rattle.up_model.specs.declared.entry.Call.TheVariants.{Supply, Dirty, End, Zero, Resize}
 use Rattle.up_model.proofs.Bools.{not_true}
 use Rattle.up_model.proofs.Equations.{settled_is, begun_is}
-use Rattle.up_model.proofs.Steps.{idle_refused, idle_there, idle_settled, idle_begun, size_refused}
+use Rattle.up_model.proofs.OneEntryMore.{idle_refused, idle_there, idle_settled, idle_begun, size_refused}
 use Rattle.up_model.proofs.Presence.{there_is, write_there, stays_within, pages_within}
 use Rattle.up_model.proofs.Reclaiming.{evicted_page}
 use Rattle.up_model.proofs.Blocked.{asks_now, blocked_refused, write_untrapped}

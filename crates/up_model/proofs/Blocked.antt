@@ -26,9 +26,9 @@ use Rattle.up_model.specs.declared.entry.Call.{Call}
 use Rattle.up_model.specs.declared.entry.Call.TheVariants.{Read, Write, Retry}
 use Rattle.up_model.specs.declared.entry.Reply.{Reply}
 use Rattle.up_model.specs.declared.entry.Reply.TheVariants.{Done, Blocked}
-use Rattle.up_model.proofs.Bools.{and_left, and_right, nat_eq_true}
-use Rattle.up_model.proofs.Passed.{Past, past_where, past_frames}
-use Rattle.up_model.proofs.Blocking.{never_parks}
+use Rattle.up_model.proofs.Bools.{and_left, and_right, nat_eq_true, not_false}
+use Rattle.up_model.proofs.Passed.{Past, past_where, past_frames, past_done}
+use Rattle.up_model.proofs.NewTickets.{never_parks}
 
 pub past_blocked : Past is_blocked
 past_blocked = record { refused = λ why. refl; needs = λ count. refl }
@@ -38,10 +38,6 @@ pub record BlockedWhy (birth : Birth) (h : List Entry) (a : Access) : Type 0 whe
   pub fits : access_fits birth h a ≡ true
   pub attached : detached birth h ≡ false
   pub traps : there birth h (page_of a.off) ≡ true → birth.trap ≡ true
-
-fits_so : (b : Bool) → not b ≡ false → b ≡ true
-fits_so true q = refl
-fits_so false q = absurd cc
 
 must_wait_so : (birth : Birth) (h : List Entry) → is_blocked (must_wait birth h) ≡ true → detached birth h ≡ false
 must_wait_so birth h is = (past_where is_blocked past_blocked (detached birth h) refusal.Detached (Blocked (next_ticket h)) is).0
@@ -60,7 +56,7 @@ traps_so birth h a brought (Some bytes) is =
 access_blocked : (birth : Birth) (h : List Entry) (a : Access) (brought : Brought) → is_blocked (access_reply birth h a brought) ≡ true → BlockedWhy birth h a
 access_blocked birth h a brought is =
     let past = past_where is_blocked past_blocked (not (access_fits birth h a)) refusal.Range _ is in
-    let fits = fits_so _ past.0 in
+    let fits = not_false _ past.0 in
     elim (there birth h (page_of a.off)) as (λ b. there birth h (page_of a.off) ≡ b → is_blocked (cond b (touch_reply birth h a brought a.bytes) (must_wait birth h)) ≡ true → BlockedWhy birth h a) [
       | true ↦ λ q blocked. let both = traps_so birth h a brought a.bytes blocked in record { fits = fits; attached = both.1; traps = λ here. both.0 }
       | false ↦ λ q blocked. record { fits = fits; attached = must_wait_so birth h blocked; traps = λ here. absurd cc }
@@ -83,7 +79,7 @@ call_blocked birth h who epoch (Read piece last brought) is =
 call_blocked birth h who epoch (Write off bytes last brought) is =
     let a : Access = record { off = off; len = length bytes; last = last.0; bytes = Some bytes } in record { a = a; attempted = refl; why = access_blocked birth h a brought is }
 call_blocked birth h who epoch (Retry ticket brought) is = retry_blocked birth h brought (outcome birth h ticket) (parked h ticket) is
-call_blocked birth h who epoch call is = let never = (never_parks birth h who epoch call refl).is in absurd cc
+call_blocked birth h who epoch call is = let never = never_parks birth h who epoch call refl in absurd cc
 
 -- an entry that parks has an access, which had to wait
 pub entry_blocked : (birth : Birth) (e : Entry) (before : List Entry) → Legal birth (e ∷ before) → is_blocked e.reply ≡ true → ParksOne birth before (attempt before e)
@@ -176,9 +172,6 @@ done_untrapped birth h a brought (Some bytes) is =
       | true ↦ λ done. let never = waits_undone (detached birth h) (next_ticket h) in absurd cc
       | false ↦ λ done. refl
     ] is
-
-past_done : Past is_done
-past_done = record { refused = λ why. refl; needs = λ count. refl }
 
 access_untrapped : (birth : Birth) (h : List Entry) (a : Access) (brought : Brought) → is_done (access_reply birth h a brought) ≡ true →
     (birth.trap && not (dirty birth h (page_of a.off))) ≡ false

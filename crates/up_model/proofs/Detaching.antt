@@ -8,9 +8,8 @@ use Rattle.up_model.specs.Roles.{users, pagers, was_detached, detached, detaches
 use Rattle.up_model.specs.Reply.{reply}
 use Rattle.up_model.specs.Legal.{Legal}
 use Rattle.up_model.specs.Positions.{first_of, passes_at, detaching, DetachedAt}
-use Rattle.up_model.proofs.Bools.{and_left, and_right, not_true}
+use Rattle.up_model.proofs.Bools.{or_left, or_right, and_left, and_right, not_true, false_by}
 use Rattle.up_model.proofs.Placing.{first_all, first_before, passes_own, passes_before, passes_kept, passes_below}
-use Rattle.up_model.proofs.Placed.{or_left, or_right}
 use Rattle.up_model.specs.declared.entry.Birth.{Birth}
 use Rattle.up_model.specs.declared.entry.Entry.{Entry}
 use Rattle.up_model.specs.declared.entry.Role.TheVariants.{User, Pager}
@@ -119,10 +118,6 @@ pub detaching_is : (birth : Birth) (e : Entry) (before : List Entry) → Legal b
     (detached birth (e ∷ before) && not (detached birth before)) ≡ (detaches birth before e.call && accepts e.reply)
 detaching_is birth e before legal = step_call birth before e.who e.epoch e.call e.reply legal.2
 
-not_so : (b : Bool) → (b ≡ true → ⊥) → b ≡ false
-not_so true never = absurd (never refl)
-not_so false never = refl
-
 at_own : (birth : Birth) (e : Entry) (before : List Entry) (k : ℕ) → length before ≡ k →
     passes_at (detaching birth) (e ∷ before) k ≡ detaching birth before e
 at_own birth e before k same =
@@ -138,7 +133,7 @@ own_detached birth e before legal k same = (
       let not_yet : detached birth before ≡ false = not_true _ (and_right (detached birth (e ∷ before)) _ both) in record {
         within = omega arith;
         before_it = λ j early. ap (detached birth) (first_before e before j (omega arith))
-            ∙ not_so _ (λ too_early. let wrong : false ≡ true = sym not_yet ∙ detached_from birth before j too_early in absurd cc);
+            ∙ false_by _ (λ too_early. let wrong : false ≡ true = sym not_yet ∙ detached_from birth before j too_early in absurd cc);
         after_it = λ j late. ap (detached birth) (first_all (e ∷ before) j (omega arith)) ∙ now;
       }),
   (λ at.

@@ -13,7 +13,7 @@ use Rattle.up_model.specs.declared.entry.Entry.{Entry}
 use Rattle.up_model.specs.declared.entry.Call.TheVariants as calls
 use Rattle.up_model.proofs.Equations.{value_is, marked_is, begun_is, settled_is}
 use Rattle.std.proofs.lemmas.Bool.Decides.{nat_tests}
-use Rattle.up_model.proofs.Steps.{page_start}
+use Rattle.up_model.proofs.OneEntryMore.{page_start}
 
 -- what page p is after a journal: there or not, and its marks
 pub record PageIs (birth : Birth) (h : List Entry) (p : ℕ) (is_there is_marked is_begun is_settled : Bool) : Type 0 where
@@ -99,7 +99,7 @@ pub value_growth : (birth : Birth) (e : Entry) (h : List Entry) (pages x : ℕ) 
 value_growth birth e h pages x c a g = rw (value_is, c, a, g) refl
 
 -- A cut of p. What is cut off doesn't grow.
-cut_grows_not : (pages n p : ℕ) → asks_to_cut (calls.Resize pages) n p ≡ true → asks_to_grow (calls.Resize pages) n p ≡ false
+pub cut_grows_not : (pages n p : ℕ) → asks_to_cut (calls.Resize pages) n p ≡ true → asks_to_grow (calls.Resize pages) n p ≡ false
 cut_grows_not pages n p t = grind (arith, nat_tests)
 
 pub after_cut : (birth : Birth) (e : Entry) (h : List Entry) (pages p : ℕ) →

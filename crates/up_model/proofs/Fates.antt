@@ -25,8 +25,8 @@ use Rattle.up_model.specs.declared.entry.Role.TheVariants.{User, Pager}
 use Rattle.up_model.specs.declared.entry.Reply.{Reply}
 use Rattle.up_model.specs.declared.entry.Reply.TheVariants.{Blocked, Left}
 use Rattle.up_model.proofs.Bools.{nat_eq_true, and_right}
-use Rattle.up_model.proofs.Blocking.{blocked_entry}
-use Rattle.up_model.proofs.Holding.{owner_below}
+use Rattle.up_model.proofs.NewTickets.{blocked_entry}
+use Rattle.up_model.proofs.HeldTickets.{owner_below}
 
 -- what a call tells of itself that makes this of those who wait for page p
 abbrev pub Tells : Birth → List Entry → Call → Outcome → ℕ → Type 0

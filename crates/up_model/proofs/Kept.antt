@@ -17,7 +17,7 @@ use Rattle.up_model.specs.declared.entry.Call.{Call}
 use Rattle.up_model.specs.declared.entry.Call.TheVariants as calls
 use Rattle.up_model.specs.declared.entry.Reply.{Reply}
 use Rattle.up_model.proofs.Bools.{not_true, and_false}
-use Rattle.up_model.proofs.Steps.{is_resize, size_kept, size_refused, changes_roles, users_kept, pagers_kept, detached_kept, users_refused, pagers_refused, detached_refused, next_ticket_kept, parked_kept, owner_kept, waits_kept, requested_kept, taken_kept, may_resolve, resolved_none, resolved_refused, asked_kept, outcome_kept, spent_kept}
+use Rattle.up_model.proofs.OneEntryMore.{is_resize, size_kept, size_refused, changes_roles, users_kept, pagers_kept, detached_kept, users_refused, pagers_refused, detached_refused, next_ticket_kept, parked_kept, owner_kept, waits_kept, requested_kept, taken_kept, may_resolve, resolved_none, resolved_refused, asked_kept, outcome_kept, spent_kept}
 
 -- what is asked for, and who waits, as after the journal before
 pub record SameAsks (birth : Birth) (e : Entry) (h : List Entry) : Type 0 where

@@ -1,9 +1,11 @@
+pub mod Carrying
+pub mod Replying
 pub mod Bools
 pub mod Equations
-pub mod Blocking
-pub mod Waiting
-pub mod Holding
-pub mod Steps
+pub mod NewTickets
+pub mod WaitLaws
+pub mod HeldTickets
+pub mod OneEntryMore
 pub mod Effects
 pub mod Passed
 pub mod Presence
@@ -31,23 +33,23 @@ mod ComputedTests
 mod ComputedChoices
 mod RowsSurvival
 pub mod Fates
-pub mod Refusing
-pub mod Resting
+pub mod RefusalCauses
+pub mod StateParts
 pub mod Blocked
 pub mod Asked
-pub mod Sending
-pub mod Going
-pub mod Quiet
+pub mod PacketsSent
+pub mod StatePartLaws
+pub mod UnconcernedPages
 pub mod Kept
-pub mod Touching
+pub mod PagesTouched
 pub mod Resolved
-mod Same
-pub mod Lasting
-pub mod Surviving
+mod SameReplies
+pub mod LastSaid
+pub mod WritesSurvive
 pub mod ReadBytes
 pub mod ReadBack
 pub mod Ordered
-pub mod Meant
+pub mod RecursionMeanings
 pub mod WaitersAsked
-pub mod Numbered
-pub mod Numbering
+pub mod BeginNumbers
+pub mod NumberLaws

@@ -9,7 +9,7 @@ use Rattle.up_model.specs.Use.{last_use, cold_since, is_cold, age_class}
 use Rattle.up_model.specs.Order.{loose, reclaimable, place, below_or, goes_before, put_in, put_in_order, order}
 use Rattle.up_model.specs.Ordering.{lists, times, Rising, IsOrder}
 use Rattle.up_model.specs.Legal.{Legal}
-use Rattle.up_model.proofs.Bools.{and_left, and_right, and_false, nat_eq_true, nat_eq-same}
+use Rattle.up_model.proofs.Bools.{and_left, and_right, and_false, nat_eq_true, nat_eq-same, and_implied}
 use Rattle.up_model.proofs.Presence.{pages_within}
 use Rattle.up_model.specs.declared.entry.Birth.{Birth}
 use Rattle.up_model.specs.declared.entry.Entry.{Entry}
@@ -152,8 +152,8 @@ listed_here p r n test passing =
     elim (p == r) as (λ b. (p == r) ≡ b → (b || ((nat_le (p + 1) r && nat_lt r (p + 1 + n)) && test r)) ≡ ((nat_le p r && nat_lt r (p + suc n)) && test r)) [
       | true ↦ λ q. let same : p ≡ r = nat_eq_true p r q in
           let here : test r ≡ true = subst (λ (s : ℕ). test s ≡ true) same passing in
-          let inside : (nat_le p r && nat_lt r (p + suc n)) ≡ true = grind (arith, nat_tests) in
-          rw (here, inside) refl
+          let and_implied : (nat_le p r && nat_lt r (p + suc n)) ≡ true = grind (arith, nat_tests) in
+          rw (here, and_implied) refl
       | false ↦ λ q. let same : (nat_le (p + 1) r && nat_lt r (p + 1 + n)) ≡ (nat_le p r && nat_lt r (p + suc n)) = grind (arith, nat_tests) in rw same refl
     ] refl
 
@@ -298,7 +298,7 @@ limit_none false cold old none is = refl
 pub whole_loose : (birth : Birth) (h : List Entry) (newest p : ℕ) → reclaimable birth h newest 0 p ≡ loose birth h p
 whole_loose birth h newest p = limit_none (loose birth h p) (is_cold birth h p) true (nat_le 0 (age_class birth h newest p)) (grind (arith, nat_tests))
 
-part_of : (here cold old inside : Bool) → ((here && (cold || old)) && (inside && here)) ≡ (inside && (here && (cold || old)))
+part_of : (here cold old and_implied : Bool) → ((here && (cold || old)) && (and_implied && here)) ≡ (and_implied && (here && (cold || old)))
 part_of true true old true = refl
 part_of true true old false = refl
 part_of true false true true = refl
@@ -327,15 +327,10 @@ rising_once before is (q ∷ qs) rising p =
       | false ↦ λ at. rising_once before is qs rising.1 p
     ] refl
 
-inside : (in_size may : Bool) → (may ≡ true → in_size ≡ true) → (in_size && may) ≡ may
-inside true may is = refl
-inside false true is = is refl
-inside false false is = refl
-
 pub order_once : (birth : Birth) (h : List Entry) → Legal birth h → (newest limit p : ℕ) →
     times (order birth h newest limit) p ≡ cond (reclaimable birth h newest limit p) 1 0
 order_once birth h legal newest limit p =
     let has : lists (order birth h newest limit) p ≡ reclaimable birth h newest limit p =
-    order_lists birth h newest limit p ∙ inside (nat_lt p (size birth h)) (reclaimable birth h newest limit p)
+    order_lists birth h newest limit p ∙ and_implied (nat_lt p (size birth h)) (reclaimable birth h newest limit p)
     (λ may. let low : p < size birth h = pages_within birth h legal p (and_left _ _ (and_left (loose birth h p) _ may)) in grind (arith, nat_tests)) in
     rising_once (goes_before birth h) (goes_order birth h) (order birth h newest limit) (order_rises birth h newest limit) p ∙ ap (λ (b : Bool). cond b 1 0) has

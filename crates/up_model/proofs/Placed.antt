@@ -2,19 +2,18 @@
 use Rattle.std.proofs.Common.{◌≡◌, ℕ, ◌<◌, ◌&&◌, ◌||◌, ◌↔◌, ◌⊎◌, inl, inr, not, Bool, true, false, cond, Some, None, option_map, List, [], ◌∷◌, length, suc, refl, ap, sym, ◌∙◌, subst, ⊎_elim, arith}
 use Rattle.std.proofs.lemmas.Bool.{cases_lt}
 use Rattle.up_num.specs.declared.answers.AskKind.{AskKind}
-use Rattle.up_model.specs.Attempts.{accepts, attempt, is_blocked}
+use Rattle.up_model.specs.Attempts.{attempt, is_blocked}
 use Rattle.up_model.specs.Deeds.{Named, AnyBegin, NoBegin, is_named, named, writes, supplies, begins, ends, pins_one, blanks, dirties}
 use Rattle.up_model.specs.Value.{marked, begun_by, begun, settled, there}
 use Rattle.up_model.specs.States.{plain, clean, awaiting, dirty, counts_as, closes}
 use Rattle.up_model.specs.Asks.{want, asked, asks, wanted, resolved, is_waiting}
 use Rattle.up_model.specs.Positions.{passes_at, dirtying, beginning_as, ending, naming, named_at, blanking, filling, asking, resolving, dirtied, PassesAfter, Begun, BegunBy, Settled, Marked, Asked}
-use Rattle.up_model.proofs.Bools.{and_left, and_right, not_true}
+use Rattle.up_model.proofs.Bools.{and_left, and_right, not_true, or_right, or_left}
 use Rattle.up_model.proofs.Equations.{begun_by_is, settled_is, marked_is, begun_by_none, settled_none, marked_none}
 use Rattle.up_model.proofs.Placing.{said_own, said_before, passes_own, passes_before, passes_kept, passes_below, last_position_same, last_position_own, after_kept, after_earlier, after_none, last_decides, stands_after}
 use Rattle.up_model.specs.declared.entry.Birth.{Birth}
 use Rattle.up_model.specs.declared.entry.Entry.{Entry}
-use Rattle.up_model.specs.declared.entry.Reply.{Reply}
-use Rattle.up_model.specs.declared.entry.Reply.TheVariants.{Blocked}
+use Rattle.up_model.proofs.Blocked.{blocked_refused}
 
 -- a begin
 cond_or : (is b x m : Bool) → cond (is && b) (x || m) m ≡ ((is && (b && x)) || m)
@@ -61,15 +60,11 @@ asks_or true false old apart = refl
 asks_or false true old apart = let wrong : true ≡ false = apart refl in absurd cc
 asks_or false false old apart = refl
 
-blocked_waits : (r : Reply) → is_blocked r ≡ true → accepts r ≡ false
-blocked_waits (Blocked ticket) is = refl
-blocked_waits _ is = absurd cc
-
 asks_alone : (birth : Birth) (before : List Entry) (e : Entry) (kind : AskKind) (p : ℕ) →
     is_waiting (resolved birth before e kind p) ≡ false → asks (wanted birth before e) kind p ≡ false
 asks_alone birth before e kind p resolving =
     elim (is_blocked e.reply) as (λ b. is_blocked e.reply ≡ b → asks (cond b (option_map (want birth before) (attempt before e)) None) kind p ≡ false) [
-      | true ↦ λ q. let wrong : true ≡ false = sym (rw (blocked_waits e.reply q) refl) ∙ resolving in absurd cc
+      | true ↦ λ q. let wrong : true ≡ false = sym (rw (blocked_refused e.reply q) refl) ∙ resolving in absurd cc
       | false ↦ λ q. refl
     ] refl
 
@@ -151,14 +146,6 @@ settled_before birth e before p kept (inr found) =
     subst (λ (n : ℕ). named_at birth (e ∷ before) n ≡ named birth e.call) same (said_own NoBegin (naming birth) e before) in
     inr (sym (passes_own (ending p) e before) ∙ here, (ended.start, subst (StandsSince birth before p ended.start) which begun)))
     (cases_lt k (length before))
-
-pub or_left : (a b : Bool) → a ≡ true → (a || b) ≡ true
-or_left true b is = refl
-or_left false b is = absurd cc
-
-pub or_right : (a b : Bool) → b ≡ true → (a || b) ≡ true
-or_right true b is = refl
-or_right false b is = is
 
 pub or_either : (a b : Bool) → (a || b) ≡ true → (a ≡ true) ⊎ (b ≡ true)
 or_either true b is = inl refl

@@ -13,7 +13,7 @@ use Rattle.up_model.proofs.Bools.{and_left, and_right, and_false, not_true}
 use Rattle.up_model.specs.declared.entry.Birth.{Birth}
 use Rattle.up_model.specs.declared.entry.Entry.{Entry}
 
-waiting_is : (o : Outcome) → is_waiting o ≡ true → o ≡ Waiting
+pub waiting_is : (o : Outcome) → is_waiting o ≡ true → o ≡ Waiting
 waiting_is Waiting is = refl
 waiting_is _ is = absurd cc
 

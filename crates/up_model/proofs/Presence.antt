@@ -1,5 +1,5 @@
 -- Which pages are there: what one more entry makes of that, that all bytes of a page go with it, and that it lies within the object.
-use Rattle.std.proofs.Common.{◌≡◌, ℕ, ◌<◌, ◌+◌, ◌*◌, ◌-◌, ◌&&◌, ◌||◌, not, Bool, true, false, cond, Option, Some, None, is_some, List, [], ◌∷◌, length, refl, ap, sym, ◌∙◌, subst, arith, nat_le, nat_lt, inl, inr}
+use Rattle.std.proofs.Common.{◌≡◌, ℕ, ◌<◌, ◌+◌, ◌*◌, ◌-◌, ◌&&◌, ◌||◌, Bool, true, false, cond, Option, Some, None, is_some, List, [], ◌∷◌, length, refl, ap, sym, ◌∙◌, subst, arith, nat_le, nat_lt, inl, inr}
 use Rattle.std.proofs.lemmas.Option.{slice_get-get_or}
 use Rattle.std.proofs.lemmas.Bool.{or_cases, or_parts, and_parts}
 use Rattle.std.proofs.lemmas.Bool.Decides.{nat_tests}
@@ -22,14 +22,10 @@ use Rattle.up_model.specs.declared.entry.Call.{Call}
 use Rattle.up_model.specs.declared.entry.Call.TheVariants.{Write, Retry, Supply, Zero, Resize}
 use Rattle.up_model.specs.declared.entry.Reply.{Reply}
 use Rattle.up_model.specs.declared.entry.Reply.TheVariants.{Blocked}
-use Rattle.up_model.proofs.Bools.{and_left, and_right, nat_eq_true, and_false}
+use Rattle.up_model.proofs.Bools.{and_left, and_right, nat_eq_true, and_false, not_false}
 use Rattle.up_model.proofs.Equations.{value_is, value_none}
 use Rattle.up_model.proofs.Passed.{past_where, past_accepts, past_done, covers_bounds, covers_within}
-use Rattle.up_model.proofs.Steps.{page_inside}
-
-fits_where : (b : Bool) → not b ≡ false → b ≡ true
-fits_where true q = refl
-fits_where false q = absurd cc
+use Rattle.up_model.proofs.OneEntryMore.{page_inside}
 
 -- a page that an access could write is there
 waits_done : (b : Bool) (ticket : ℕ) → is_done (refuse_where b refusal.Detached (Blocked ticket)) ≡ false
@@ -70,12 +66,12 @@ accepted_reply birth e before legal is = subst (λ (r : Reply). accepts r ≡ tr
 
 supply_within : (birth : Birth) (h : List Entry) (who epoch : ℕ) (call : Call) (p : ℕ) → over_supply call p ≡ true → accepts (reply birth h who epoch call) ≡ true → p < size birth h
 supply_within birth h who epoch (Supply range bytes brought) p over is =
-    covers_within birth h range p (fits_where (range_fits birth h range) (past_where accepts past_accepts _ _ _ is).0) over
+    covers_within birth h range p (not_false (range_fits birth h range) (past_where accepts past_accepts _ _ _ is).0) over
 supply_within birth h who epoch _ p over is = absurd cc
 
 zero_within : (birth : Birth) (h : List Entry) (who epoch : ℕ) (call : Call) (p : ℕ) → over_zero call p ≡ true → accepts (reply birth h who epoch call) ≡ true → p < size birth h
 zero_within birth h who epoch (Zero range) p over is =
-    covers_within birth h range p (fits_where (range_fits birth h range) (past_where accepts past_accepts _ _ _ is).0) over
+    covers_within birth h range p (not_false (range_fits birth h range) (past_where accepts past_accepts _ _ _ is).0) over
 zero_within birth h who epoch _ p over is = absurd cc
 
 -- a proper supply brings a byte for each offset of its pages

@@ -19,8 +19,8 @@ use Rattle.up_model.specs.declared.entry.Call.TheVariants.{Read, Write, Retry}
 use Rattle.up_model.specs.declared.entry.Reply.{Reply}
 use Rattle.up_model.specs.declared.entry.Reply.TheVariants.{Bytes, Done}
 use Rattle.up_model.proofs.Passed.{Past, past_frames}
-use Rattle.up_model.proofs.Waiting.{attempt_within, parked_within}
-use Rattle.up_model.proofs.Surviving.{has_byte}
+use Rattle.up_model.proofs.WaitLaws.{attempt_within, parked_within}
+use Rattle.up_model.proofs.WritesSurvive.{has_byte}
 
 -- the bytes from an offset on
 byte_from : (birth : Birth) (h : List Entry) (x n m : ℕ) → m < n → slice_get (bytes_from birth h x n) m ≡ Some (byte_or_zero (value birth h (x + m)))

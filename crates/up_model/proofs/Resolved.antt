@@ -14,7 +14,7 @@ use Rattle.up_model.specs.Packets.{packets, requested, sent, taken}
 use Rattle.up_model.specs.Tickets.{next_ticket, owner, waits, outcome, keeps_ticket, resolved_for, then_outcome}
 use Rattle.up_model.specs.Modified.{modified, is_reset, is_write, asks_other_size, is_zero_call}
 use Rattle.up_model.specs.Concerns.{is_touch}
-use Rattle.up_model.specs.Changes.{Parks, Happens, Detaches, TakesPacket, Spends, SetsModified, Departs, CutsOff}
+use Rattle.up_model.specs.Changes.{Parks, Happens, Detaches, TakesPacket, Spends, SetsModified, Departs, SetsDetached}
 use Rattle.up_model.specs.declared.entry.Birth.{Birth}
 use Rattle.up_model.specs.declared.entry.Brought.{Brought}
 use Rattle.up_model.specs.declared.entry.Entry.{Entry}
@@ -22,7 +22,7 @@ use Rattle.up_model.specs.declared.entry.Call.{Call}
 use Rattle.up_model.specs.declared.entry.Call.TheVariants as calls
 use Rattle.up_model.specs.declared.entry.Role.TheVariants.{User, Pager}
 use Rattle.up_model.specs.declared.entry.Reply.TheVariants.{Left}
-use Rattle.up_model.proofs.Steps.{accepted_parks_none, resolved_refused, outcome_kept, detached_refused, requested_kept, next_ticket_kept, parked_kept, owner_kept, waits_kept, taken_kept, taken_more, asked_resolved, spent_retry}
+use Rattle.up_model.proofs.OneEntryMore.{accepted_parks_none, resolved_refused, outcome_kept, detached_refused, requested_kept, next_ticket_kept, parked_kept, owner_kept, waits_kept, taken_kept, taken_more, asked_resolved, spent_retry}
 
 -- An entry that parks an access.
 
@@ -164,5 +164,5 @@ user_departs birth e h woken c r = record { acting = rw (c, r) refl; paging = rw
 pub pager_departs : (birth : Birth) (e : Entry) (h : List Entry) (woken : ℕ) → e.call ≡ calls.Leave Pager → e.reply ≡ Left woken → Departs birth e h false
 pager_departs birth e h woken c r = record { acting = rw c refl; paging = rw (c, r) refl; cut_off = rw c refl }
 
-pub detach_cuts_off : (birth : Birth) (e : Entry) (h : List Entry) → e.call ≡ calls.Detach → accepts e.reply ≡ true → CutsOff birth e h
+pub detach_cuts_off : (birth : Birth) (e : Entry) (h : List Entry) → e.call ≡ calls.Detach → accepts e.reply ≡ true → SetsDetached birth e h
 detach_cuts_off birth e h c a = record { acting = rw c refl; paging = rw c refl; cut_off = rw (c, a) refl }

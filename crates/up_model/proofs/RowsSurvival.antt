@@ -4,7 +4,7 @@ use Rattle.std.specs.Prelude.{◌≡◌, true, false, Some, None, List, [], ◌�
 use Rattle.up_model.specs.Value.{value, there}
 use Rattle.up_model.specs.Legal.{Legal}
 use Rattle.up_model.specs.Positions.{first_of, said_at, passes_at, beginning, ending, dirtying}
-use Rattle.up_model.specs.Survival.{writing, writes_byte, given}
+use Rattle.up_model.specs.Survival.{writing, writes_byte, byte_given}
 use Rattle.up_model.proofs.JournalWords.{page, range, free, by, read_at, write_at, supply}
 use Rattle.up_model.specs.declared.entry.Entry.{Entry}
 use Rattle.up_model.specs.declared.entry.Brought.TheVariants.{Nothing}
@@ -39,7 +39,7 @@ kept-value : value (free 1) kept_over_a_writeback 0 ≡ Some 65
 unfolding value
 kept-value = refl
 
-kept-given : given (free 1) kept_over_a_writeback 0 ≡ Some 65
+kept-given : byte_given (free 1) kept_over_a_writeback 0 ≡ Some 65
 kept-given = refl
 
 -- the second doesn't: the only begin counts, and an end follows, but the page was dirtied between them
@@ -81,7 +81,7 @@ read-value : value (free 1) read_by_a_writeback 0 ≡ Some 122
 unfolding value
 read-value = refl
 
-read-given : given (free 1) read_by_a_writeback 0 ≡ Some 65
+read-given : byte_given (free 1) read_by_a_writeback 0 ≡ Some 65
 read-given = refl
 
 -- the second does: the begin at 2 counts, the end stands at 4, nothing between them dirtied the page, and from just before the
@@ -96,11 +96,11 @@ read-end = refl
 read-still : passes_at (dirtying (free 1) 0) read_by_a_writeback 3 ≡ false
 read-still = refl
 
-read-at_the_begin : value (free 1) (first_of read_by_a_writeback 2) 0 ≡ given (free 1) (first_of read_by_a_writeback 2) 0
+read-at_the_begin : value (free 1) (first_of read_by_a_writeback 2) 0 ≡ byte_given (free 1) (first_of read_by_a_writeback 2) 0
 unfolding value
 read-at_the_begin = refl
 
-read-after_the_begin : value (free 1) (first_of read_by_a_writeback 3) 0 ≡ given (free 1) (first_of read_by_a_writeback 3) 0
+read-after_the_begin : value (free 1) (first_of read_by_a_writeback 3) 0 ≡ byte_given (free 1) (first_of read_by_a_writeback 3) 0
 unfolding value
 read-after_the_begin = refl
 

@@ -5,7 +5,7 @@ use Rattle.up_num.specs.declared.answers.AskKind.{AskKind}
 use Rattle.up_num.specs.declared.answers.AskKind.TheVariants.{Read as ReadAsk, Dirty as DirtyAsk}
 use Rattle.up_num.specs.declared.answers.Outcome.{Outcome}
 use Rattle.up_num.specs.declared.answers.Outcome.TheVariants.{Freed, Waiting}
-use Rattle.up_model.specs.Attempts.{Access, page_of, accepts, is_blocked, blocks, attempt, attempt_of, parked}
+use Rattle.up_model.specs.Attempts.{Access, page_of, is_blocked, blocks, attempt, attempt_of, parked}
 use Rattle.up_model.specs.Size.{size, access_fits}
 use Rattle.up_model.specs.Deeds.{evicts}
 use Rattle.up_model.specs.Value.{there}
@@ -23,23 +23,18 @@ use Rattle.up_model.specs.declared.entry.Call.{Call}
 use Rattle.up_model.specs.declared.entry.Call.TheVariants.{Read, Write, Retry}
 use Rattle.up_model.specs.declared.entry.Reply.{Reply}
 use Rattle.up_model.specs.declared.entry.Reply.TheVariants.{Blocked, Done}
-use Rattle.up_model.proofs.Bools.{and_left, and_right}
-use Rattle.up_model.proofs.Passed.{Past, past_where, past_frames}
-use Rattle.up_model.proofs.Steps.{resolved_refused}
-use Rattle.up_model.proofs.Waiting.{attempt_within, parked_within}
+use Rattle.up_model.proofs.Bools.{and_left, and_right, false_by, not_false, or_right, or_left}
+use Rattle.up_model.proofs.Passed.{past_where, past_frames}
+use Rattle.up_model.proofs.OneEntryMore.{resolved_refused}
+use Rattle.up_model.proofs.WaitLaws.{attempt_within, parked_within}
 use Rattle.up_model.proofs.Reclaiming.{evicted_page}
+use Rattle.up_model.proofs.Blocked.{blocked_refused, past_blocked}
+use Rattle.up_model.proofs.PlacedTickets.{waiting_is}
 
 -- an access that is blocked lies within the object, and its page lacks what it asks for
 pub record MustWait (birth : Birth) (h : List Entry) (a : Access) : Type 0 where
   pub fits : access_fits birth h a ≡ true
   pub lacking : lacks birth h (kind_of birth h a) (page_of a.off) ≡ true
-
-past_blocked : Past is_blocked
-past_blocked = record { refused = λ why. refl; needs = λ count. refl }
-
-unrefused : (b : Bool) → not b ≡ false → b ≡ true
-unrefused true is = refl
-unrefused false is = absurd cc
 
 both_true : (a b : Bool) → a ≡ true → b ≡ true → (a && b) ≡ true
 both_true true b one other = other
@@ -55,22 +50,18 @@ choice_waits true true first next free is = let wrong : false ≡ true = sym fre
 choice_waits true false first next free is = refl
 choice_waits false mud first next free is = let wrong : false ≡ true = sym free ∙ is in absurd cc
 
-unblocked : (b : Bool) → (b ≡ true → ⊥) → b ≡ false
-unblocked true never = absurd (never refl)
-unblocked false never = refl
-
 touch_waits : (birth : Birth) (h : List Entry) (a : Access) (brought : Brought) (put : Option (List ℕ)) → is_blocked (touch_reply birth h a brought put) ≡ true →
     dirty birth h (page_of a.off) ≡ false
 touch_waits birth h a brought None is = absurd cc
 touch_waits birth h a brought (Some bytes) is =
     choice_waits birth.trap (dirty birth h (page_of a.off)) (must_wait birth h) _
-    (unblocked _ (λ framed. let never : false ≡ true = past_frames is_blocked past_blocked (one_where (plain birth h (page_of a.off) || loaned birth h (page_of a.off))) brought Done framed in absurd cc)) is
+    (false_by _ (λ framed. let never : false ≡ true = past_frames is_blocked past_blocked (one_where (plain birth h (page_of a.off) || loaned birth h (page_of a.off))) brought Done framed in absurd cc)) is
 
 access_waits : (birth : Birth) (h : List Entry) (a : Access) (brought : Brought) → is_blocked (access_reply birth h a brought) ≡ true → MustWait birth h a
 access_waits birth h a brought is =
     let parts = past_where is_blocked past_blocked (not (access_fits birth h a)) _ _ is in
     record {
-      fits = unrefused (access_fits birth h a) parts.0;
+      fits = not_false (access_fits birth h a) parts.0;
       lacking = elim (there birth h (page_of a.off)) as (λ b. there birth h (page_of a.off) ≡ b →
           is_blocked (cond b (touch_reply birth h a brought a.bytes) (must_wait birth h)) ≡ true → lacks birth h (cond b DirtyAsk ReadAsk) (page_of a.off) ≡ true) [
             | true ↦ λ here next. lacks_by birth h (page_of a.off) true here (λ yes. touch_waits birth h a brought a.bytes next)
@@ -154,29 +145,17 @@ blocks_blocked : (r : Reply) (t : ℕ) → blocks r t ≡ true → is_blocked r 
 blocks_blocked (Blocked ticket) t is = refl
 blocks_blocked _ t is = absurd cc
 
-blocked_unaccepted : (r : Reply) → is_blocked r ≡ true → accepts r ≡ false
-blocked_unaccepted (Blocked ticket) is = refl
-blocked_unaccepted _ is = absurd cc
-
-or_first : (a b : Bool) → a ≡ true → (a || b) ≡ true
-or_first true b is = refl
-or_first false b is = absurd cc
-
 own_asked : (birth : Birth) (e : Entry) (before : List Entry) → Legal birth (e ∷ before) → (t : ℕ) (a : Ask) → blocks e.reply t ≡ true →
     (o : Option Access) → attempt before e ≡ o → option_map (want birth before) o ≡ Some a → asked birth (e ∷ before) a.kind a.first ≡ true
 own_asked birth e before legal t a here None tried is = absurd cc
 own_asked birth e before legal t a here (Some access) tried is =
     let blocked = blocks_blocked e.reply t here in
     let same : want birth before access ≡ a = cc in
-    let quiet : resolved birth before e a.kind a.first ≡ Waiting = resolved_refused birth e before a.kind a.first (blocked_unaccepted e.reply blocked) in
+    let quiet : resolved birth before e a.kind a.first ≡ Waiting = resolved_refused birth e before a.kind a.first (blocked_refused e.reply blocked) in
     let wants : wanted birth before e ≡ Some a = rw (blocked, tried) is in
     let some : 0 < a.count = subst (λ (b : Ask). 0 < b.count) same (wants_some birth e before legal access tried blocked) in
     both_true (is_waiting (resolved birth before e a.kind a.first)) _ (ap is_waiting quiet)
-    (or_first (asks (wanted birth before e) a.kind a.first) (asked birth before a.kind a.first) (ap (λ (m : Option Ask). asks m a.kind a.first) wants ∙ asks_first a some))
-
-or_second : (a b : Bool) → b ≡ true → (a || b) ≡ true
-or_second true b is = refl
-or_second false b is = is
+    (or_left (asks (wanted birth before e) a.kind a.first) (asked birth before a.kind a.first) (ap (λ (m : Option Ask). asks m a.kind a.first) wants ∙ asks_first a some))
 
 both_wait : (first later : Outcome) → then_outcome first later ≡ Waiting → (first ≡ Waiting) × (later ≡ Waiting)
 both_wait Waiting later is = (refl, is)
@@ -193,19 +172,15 @@ waiter_asked birth (e ∷ before) legal t a is still =
           let quiet : resolved birth before e a.kind a.first ≡ Waiting =
           subst (λ (m : Option Ask). resolved_for (resolved birth before e) m ≡ Waiting) earlier fates.1 in
           both_true (is_waiting (resolved birth before e a.kind a.first)) _ (ap is_waiting quiet)
-          (or_second (asks (wanted birth before e) a.kind a.first) (asked birth before a.kind a.first) (waiter_asked birth before legal.0 t a earlier fates.0))
+          (or_right (asks (wanted birth before e) a.kind a.first) (asked birth before a.kind a.first) (waiter_asked birth before legal.0 t a earlier fates.0))
     ] refl is
-
-is_wait : (o : Outcome) → is_waiting o ≡ true → o ≡ Waiting
-is_wait Waiting is = refl
-is_wait _ is = absurd cc
 
 -- so no write waits for a page that is evicted
 pub evicts_unawaited : (birth : Birth) (e : Entry) (before : List Entry) → Legal birth (e ∷ before) → (p : ℕ) → evicts e p ≡ true →
     (t : ℕ) (a : Ask) → waits birth before t ≡ Some a → a.kind ≡ DirtyAsk → a.first ≡ p → is_waiting (outcome birth before t) ≡ false
 evicts_unawaited birth e before legal p is t a waiting dirty first =
-    unblocked _ (λ still.
-    let by_ask = waiter_asked birth before legal.0 t a waiting (is_wait (outcome birth before t) still) in
+    false_by _ (λ still.
+    let by_ask = waiter_asked birth before legal.0 t a waiting (waiting_is (outcome birth before t) still) in
     let asked_here : asked birth before DirtyAsk p ≡ true =
     subst (λ (q : ℕ). asked birth before DirtyAsk q ≡ true) first (subst (λ (k : AskKind). asked birth before k a.first ≡ true) dirty by_ask) in
     let wrong : true ≡ false = sym asked_here ∙ (evicted_page birth e before legal p is).unasked in absurd cc)

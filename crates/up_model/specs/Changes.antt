@@ -206,7 +206,7 @@ pub record Departs (birth : Birth) (e : Entry) (h : List Entry) (user : Bool) : 
   pub cut_off : was_detached (e ∷ h) ≡ was_detached h
 
 -- a detach was accepted
-pub record CutsOff (birth : Birth) (e : Entry) (h : List Entry) : Type 0 where
+pub record SetsDetached (birth : Birth) (e : Entry) (h : List Entry) : Type 0 where
   pub acting : users birth (e ∷ h) ≡ users birth h
   pub paging : pagers birth (e ∷ h) ≡ pagers birth h
   pub cut_off : was_detached (e ∷ h) ≡ true

@@ -17,9 +17,11 @@ pub mod Newest
 pub mod Numbers
 pub mod Parked
 pub mod Reply
+pub mod Bringing
 pub mod Legal
 pub mod Looks
 pub mod Concerns
+pub mod Answered
 pub mod Changes
 pub mod Standing
 pub mod Positions

@@ -25,8 +25,8 @@ gives_byte birth x before e =
     cond (writes before e (page_of x)) (written (attempt before e) x) (cond (blanks birth before e (page_of x)) (Some 0) None)
 
 -- the byte at offset x of its last write, growth or zero call
-abbrev pub given : Birth → List Entry → ℕ → Option ℕ
-given birth h x = last_said (gives_byte birth x) h
+abbrev pub byte_given : Birth → List Entry → ℕ → Option ℕ
+byte_given birth h x = last_said (gives_byte birth x) h
 
 -- page p lies within the size after each entry from position i on
 abbrev pub WithinFrom : Birth → List Entry → ℕ → ℕ → Type 0
@@ -35,7 +35,7 @@ WithinFrom birth h p i = (k : ℕ) → i < k → p < size birth (first_of h k)
 -- `now` are first entries of h: after them each byte that the entry at position i of h wrote in page p has the byte of its
 -- last write, growth or zero call. As it was written at i, this last one stands at i or later.
 abbrev pub Kept : Birth → List Entry → ℕ → ℕ → List Entry → Type 0
-Kept birth h p i now = (x : ℕ) → page_of x ≡ p → is_some (said_at None (writes_byte x) h i) ≡ true → value birth now x ≡ given birth now x
+Kept birth h p i now = (x : ℕ) → page_of x ≡ p → is_some (said_at None (writes_byte x) h i) ≡ true → value birth now x ≡ byte_given birth now x
 
 -- p is there, with these bytes
 pub record Stays (birth : Birth) (h : List Entry) (p i : ℕ) : Type 0 where

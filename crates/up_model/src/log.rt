@@ -36,11 +36,12 @@ impl Log {
         }
     }
 
-    /// Makes room for so many entries more.
+    /// Makes room for so many entries more. It takes no memory where there is room already.
     pub fn room(&mut self, count: u32) -> Result<(), Memory>
         ensures entries { self.new.entries ≡ self.old.entries }
         ensures enough { OnOk result (count ≤ self.new.spare) }
         ensures no_less { self.old.spare ≤ self.new.spare }
+        ensures needed { OnErr result (self.old.spare < count) }
         ensures same { OnErr result (self.new ≡ self.old) }
     {
         let wanted = u64::from(count);

@@ -1,6 +1,5 @@
 ghost use Rattle.std.specs.Prelude.{◌≡◌, ◌==◌, ◌&&◌, ◌+◌, ◌*◌, ◌<◌, ◌^◌, [], Some, None, true, false, cond, length, map, max, not, nat_le, nat_lt, reverse, slice_get, take, IfOk, IsTrue};
 ghost use Rattle.up_model.specs.Attempts as attempting;
-ghost use Rattle.up_model.specs.Modified as changing;
 ghost use Rattle.up_model.specs.Order as ordering;
 ghost use Rattle.up_model.specs.Packets as sending;
 ghost use Rattle.up_model.specs.Pages as pages;
@@ -12,9 +11,7 @@ ghost use Rattle.up_facts.specs.Seen.{access_in};
 ghost use Rattle.up_model.specs.States as states;
 ghost use Rattle.up_model.specs.Tickets as ticketing;
 ghost use Rattle.up_model.specs.Use as uses;
-ghost use Rattle.up_model.specs.Value as values;
 
-use crate::slow::modified::modified;
 use crate::slow::numbers::{has_begun, next_number};
 use crate::slow::order::order;
 use crate::slow::packets::{sent, taken};

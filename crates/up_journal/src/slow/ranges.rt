@@ -27,7 +27,7 @@ pub(crate) enum Test {
 
 /// A run of pages of one kind that may go on: zero pages, other pages, or pages of neither kind.
 #[derive(Clone, Copy)]
-pub(crate) struct Run {
+pub(crate) struct OpenRun {
     pub(crate) kind: Option<bool>,
     pub(crate) count: u32,
 }
@@ -172,7 +172,7 @@ fn is_same_kind(one: Option<bool>, other: Option<bool>) -> bool
 }
 
 /// Ends the run before a page.
-fn close_run(list: &mut RangeSeq, page: u32, run: Run) -> Result<(), Memory>
+fn close_run(list: &mut RangeSeq, page: u32, run: OpenRun) -> Result<(), Memory>
     requires within { run.count ≤ page }
     requires some { HasPages run.kind run.count }
     ensures { OnOk result (list.new ≡ list.old ++ map replies.dirty_run (pages.closed_kind page run.kind run.count)) }
@@ -189,7 +189,12 @@ fn close_run(list: &mut RangeSeq, page: u32, run: Run) -> Result<(), Memory>
 }
 
 /// Goes on with the run by a page of this kind, or ends it and begins another.
-fn next_run(list: &mut RangeSeq, page: u32, kind: Option<bool>, run: Run) -> Result<Run, Memory>
+fn next_run(
+    list: &mut RangeSeq,
+    page: u32,
+    kind: Option<bool>,
+    run: OpenRun,
+) -> Result<OpenRun, Memory>
     requires within { run.count ≤ page }
     requires below { page < 2 ^ 32 - 1 }
     requires some { HasPages run.kind run.count }
@@ -197,13 +202,13 @@ fn next_run(list: &mut RangeSeq, page: u32, kind: Option<bool>, run: Run) -> Res
     ensures closed { OnOk result (list.new ≡ cond (pages.same_kind_of_page kind run.kind) list.old (list.old ++ map replies.dirty_run (pages.closed_kind page run.kind run.count))) }
 {
     if is_same_kind(kind, run.kind) {
-        return Ok(Run {
+        return Ok(OpenRun {
             kind: run.kind,
             count: run.count + 1,
         });
     }
     close_run(list, page, run)?;
-    Ok(Run { kind, count: 1 })
+    Ok(OpenRun { kind, count: 1 })
 }
 
 /// The maximal runs of unclean pages of one kind.
@@ -218,7 +223,7 @@ pub(crate) fn unclean_runs(
     ensures few { IfOk result (λ list. length list < 2 ^ 32) }
 {
     let mut list = RangeSeq::new(alloc);
-    let mut run = Run {
+    let mut run = OpenRun {
         kind: None,
         count: 0,
     };

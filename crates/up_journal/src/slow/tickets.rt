@@ -1,5 +1,4 @@
 ghost use Rattle.std.specs.Prelude.{◌≡◌, [], ◌∷◌, ◌++◌, cond, reverse, IfOk, OnOk};
-ghost use Rattle.up_model.specs.Attempts as attempting;
 ghost use Rattle.up_model.specs.Asks as asking;
 ghost use Rattle.up_model.specs.Tickets as ticketing;
 

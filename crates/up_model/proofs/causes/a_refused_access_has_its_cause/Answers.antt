@@ -1,4 +1,4 @@
-use Rattle.up_model.proofs.Refusing.{refused_range, refused_detached, refused_pager, refused_frames}
+use Rattle.up_model.proofs.RefusalCauses.{refused_range, refused_detached, refused_pager, refused_frames}
 use Rattle.up_model.proofs.causes.a_refused_access_has_its_cause.Goals as goal
 
 pub returns-clause-range : goal.returns-clause-range

@@ -1,5 +1,5 @@
 use Rattle.up_model.proofs.Equations.{value_is}
-use Rattle.up_model.proofs.Meant.{emptying_frees}
+use Rattle.up_model.proofs.RecursionMeanings.{emptying_frees}
 use Rattle.up_model.proofs.meanings.an_end_empties_by_one_test.Goals as goal
 
 pub returns-clause-bytes : goal.returns-clause-bytes

@@ -1,4 +1,4 @@
-use Rattle.up_model.proofs.Lasting.{last_said_is_last}
+use Rattle.up_model.proofs.LastSaid.{last_said_is_last}
 use Rattle.up_model.proofs.meanings.last_said_is_last.Goals as goal
 
 pub returns : goal.returns

@@ -1,4 +1,4 @@
-use Rattle.up_model.proofs.Meant.{size_is_last}
+use Rattle.up_model.proofs.RecursionMeanings.{size_is_last}
 use Rattle.up_model.proofs.meanings.the_size_is_the_last_resize.Goals as goal
 
 pub returns : goal.returns

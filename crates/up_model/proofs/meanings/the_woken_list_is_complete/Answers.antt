@@ -1,4 +1,4 @@
-use Rattle.up_model.proofs.Meant.{woken_complete, woken_rises}
+use Rattle.up_model.proofs.RecursionMeanings.{woken_complete, woken_rises}
 use Rattle.up_model.proofs.meanings.the_woken_list_is_complete.Goals as goal
 
 pub returns-clause-complete : goal.returns-clause-complete

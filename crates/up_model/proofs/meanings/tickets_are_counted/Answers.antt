@@ -1,4 +1,4 @@
-use Rattle.up_model.proofs.Meant.{tickets_counted}
+use Rattle.up_model.proofs.RecursionMeanings.{tickets_counted}
 use Rattle.up_model.proofs.meanings.tickets_are_counted.Goals as goal
 
 pub returns : goal.returns

@@ -1,4 +1,4 @@
-use Rattle.up_model.proofs.Numbering.{counts_by_number}
+use Rattle.up_model.proofs.NumberLaws.{counts_by_number}
 use Rattle.up_model.proofs.numbers.a_begin_counts_by_its_number.Goals as goal
 
 pub returns : goal.returns

@@ -1,4 +1,4 @@
-use Rattle.up_model.proofs.Numbering.{ranged_closes, ranged_settles, ranged_empties}
+use Rattle.up_model.proofs.NumberLaws.{ranged_closes, ranged_settles, ranged_empties}
 use Rattle.up_model.proofs.numbers.a_ranged_end_is_for_each_begin.Goals as goal
 
 pub returns-clause-closes : goal.returns-clause-closes

@@ -1,4 +1,4 @@
-use Rattle.up_model.proofs.Numbering.{ranged_numbers_none, each_begin_numbered}
+use Rattle.up_model.proofs.NumberLaws.{ranged_numbers_none, each_begin_numbered}
 use Rattle.up_model.proofs.numbers.numbered_objects_number_begins.Goals as goal
 
 pub returns-clause-ranged : goal.returns-clause-ranged

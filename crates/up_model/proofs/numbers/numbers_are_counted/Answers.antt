@@ -1,4 +1,4 @@
-use Rattle.up_model.proofs.Numbering.{numbers_counted, begun_below, unbegun_refused}
+use Rattle.up_model.proofs.NumberLaws.{numbers_counted, begun_below, unbegun_refused}
 use Rattle.up_model.proofs.numbers.numbers_are_counted.Goals as goal
 
 pub returns-clause-counted : goal.returns-clause-counted

@@ -1,5 +1,5 @@
-use Rattle.up_model.proofs.Resting.{loaned_not_plain}
-use Rattle.up_model.proofs.Going.{loaned_clean, loaned_unpinned}
+use Rattle.up_model.proofs.StateParts.{loaned_not_plain}
+use Rattle.up_model.proofs.StatePartLaws.{loaned_clean, loaned_unpinned}
 use Rattle.up_model.proofs.standing.a_loaned_page_is_clean.Goals as goal
 
 pub returns-clause-clean : goal.returns-clause-clean

@@ -1,4 +1,4 @@
-use Rattle.up_model.proofs.Going.{plain_not_clean}
+use Rattle.up_model.proofs.StatePartLaws.{plain_not_clean}
 use Rattle.up_model.proofs.standing.a_zero_page_is_not_clean.Goals as goal
 
 pub returns : goal.returns

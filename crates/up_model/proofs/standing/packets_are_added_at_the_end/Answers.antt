@@ -1,4 +1,4 @@
-use Rattle.up_model.proofs.Sending.{packets_added, taken_sent}
+use Rattle.up_model.proofs.PacketsSent.{packets_added, taken_sent}
 use Rattle.up_model.proofs.standing.packets_are_added_at_the_end.Goals as goal
 
 pub returns-clause-added : goal.returns-clause-added

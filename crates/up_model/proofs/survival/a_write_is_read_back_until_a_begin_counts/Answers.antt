@@ -1,4 +1,4 @@
-use Rattle.up_model.proofs.Surviving.{stays_unbegun}
+use Rattle.up_model.proofs.WritesSurvive.{stays_unbegun}
 use Rattle.up_model.proofs.ReadBack.{read_back}
 use Rattle.up_model.proofs.survival.a_write_is_read_back_until_a_begin_counts.Goals as goal
 

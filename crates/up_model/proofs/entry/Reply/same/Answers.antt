@@ -1,5 +1,5 @@
 use Rattle.std.proofs.Common.{sym, ◌∙◌}
-use Rattle.up_model.proofs.Same.{same_reply, one_reply}
+use Rattle.up_model.proofs.SameReplies.{same_reply, one_reply}
 use Rattle.up_model.proofs.entry.Reply.same.Goals as goal
 
 pub returns : goal.returns

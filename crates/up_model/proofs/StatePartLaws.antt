@@ -7,7 +7,7 @@ use Rattle.up_model.specs.Legal.{Legal}
 use Rattle.up_model.specs.declared.entry.Birth.{Birth}
 use Rattle.up_model.specs.declared.entry.Entry.{Entry}
 use Rattle.up_model.proofs.Bools.{and_false}
-use Rattle.up_model.proofs.Resting.{plain_unsettled, loaned_page}
+use Rattle.up_model.proofs.StateParts.{plain_unsettled, loaned_page}
 
 pub plain_not_clean : (birth : Birth) (h : List Entry) → Legal birth h → (p : ℕ) → plain birth h p ≡ true → clean birth h p ≡ false
 plain_not_clean birth h legal p is = rw (plain_unsettled birth h legal p is) (and_false (there birth h p))

@@ -17,7 +17,7 @@ use Rattle.up_model.specs.Newest.{newest, byte_or}
 use Rattle.up_model.specs.Legal.{Legal}
 use Rattle.up_model.specs.Positions.{first_of, said_at, passes_at, how_many}
 use Rattle.up_model.specs.Lasts.{last_said, SaysLast}
-use Rattle.up_model.specs.Survival.{gives_byte, given}
+use Rattle.up_model.specs.Survival.{gives_byte, byte_given}
 use Rattle.up_model.specs.Ordering.{lists, Rising}
 use Rattle.up_model.specs.Meanings.{asked_size, sets_size}
 use Rattle.up_model.specs.declared.entry.Birth.{Birth}
@@ -27,10 +27,10 @@ use Rattle.up_model.specs.declared.entry.Call.TheVariants.{Resize, End}
 use Rattle.up_model.specs.declared.entry.Reply.{Reply}
 use Rattle.up_model.specs.declared.entry.Reply.TheVariants.{Blocked}
 use Rattle.up_model.proofs.Bools.{and_false}
-use Rattle.up_model.proofs.Blocking.{blocked_entry}
-use Rattle.up_model.proofs.Holding.{owner_below}
+use Rattle.up_model.proofs.NewTickets.{blocked_entry}
+use Rattle.up_model.proofs.HeldTickets.{owner_below}
 use Rattle.up_model.proofs.Fates.{waits_unowned}
-use Rattle.up_model.proofs.Lasting.{last_said_is_last}
+use Rattle.up_model.proofs.LastSaid.{last_said_is_last}
 use Rattle.up_model.proofs.Ordered.{listed, listed_rises}
 use Rattle.up_model.proofs.Placing.{first_all, first_before, passes_own, passes_before, passes_below}
 
@@ -70,11 +70,11 @@ newest_step true blank new old = refl
 newest_step false true new old = refl
 newest_step false false new old = refl
 
-newest_last : (image : ℕ → ℕ) (birth : Birth) (h : List Entry) (x : ℕ) → newest image birth h x ≡ byte_or (image x) (given birth h x)
+newest_last : (image : ℕ → ℕ) (birth : Birth) (h : List Entry) (x : ℕ) → newest image birth h x ≡ byte_or (image x) (byte_given birth h x)
 newest_last image birth [] x = refl
 newest_last image birth (e ∷ before) x =
     newest_step (writes before e (page_of x)) (blanks birth before e (page_of x)) (written (attempt before e) x) (newest image birth before x)
-    ∙ ap (λ (n : ℕ). byte_or n (gives_byte birth x before e)) (newest_last image birth before x) ∙ or_last (image x) (gives_byte birth x before e) (given birth before x)
+    ∙ ap (λ (n : ℕ). byte_or n (gives_byte birth x before e)) (newest_last image birth before x) ∙ or_last (image x) (gives_byte birth x before e) (byte_given birth before x)
 
 pub newest_is_last : (image : ℕ → ℕ) (birth : Birth) (h : List Entry) (x : ℕ) →
     ((byte k : ℕ) → SaysLast (gives_byte birth x) h byte k → newest image birth h x ≡ byte)

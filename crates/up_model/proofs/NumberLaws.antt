@@ -22,9 +22,9 @@ use Rattle.up_model.specs.declared.entry.Reply.{Reply}
 use Rattle.up_model.specs.declared.entry.Reply.TheVariants.{Began, Done, Refused}
 use Rattle.up_model.proofs.Bools.{and_left, nat_eq-same}
 use Rattle.up_model.proofs.Equations.{value_is, marked_is, begun_by_is, begun_by_none, begun_is, settled_is}
-use Rattle.up_model.proofs.Steps.{page_start}
+use Rattle.up_model.proofs.OneEntryMore.{page_start}
 use Rattle.up_model.proofs.Placing.{first_all, first_before, passes_own, passes_before, passes_below}
-use Rattle.up_model.proofs.Numbered.{BeginsNext, entry_numbers, began_is, number_of, plain_before, dirtied_below, zero_below, named_below, named_none}
+use Rattle.up_model.proofs.BeginNumbers.{BeginsNext, entry_numbers, began_is, number_of, plain_before, dirtied_below, zero_below, named_below, named_none}
 
 -- a begin that is one of these is one
 among_all : (dirty among begin counted old older : Bool) → (old ≡ true → older ≡ true) →

@@ -16,7 +16,7 @@ use Rattle.up_model.specs.declared.entry.Call.TheVariants as calls
 use Rattle.up_model.specs.declared.entry.Reply.{Reply}
 use Rattle.up_model.specs.declared.entry.Reply.TheVariants as answer
 use Rattle.up_model.proofs.Bools.{and_false}
-use Rattle.up_model.proofs.Steps.{Idle, idle_byte, idle_there, idle_marked, idle_begun, idle_settled, idle_refused}
+use Rattle.up_model.proofs.OneEntryMore.{Idle, idle_byte, idle_there, idle_marked, idle_begun, idle_settled, idle_refused}
 
 -- the entry does nothing to page p
 pub record Quiet (birth : Birth) (e : Entry) (h : List Entry) (p : ℕ) : Type 0 where

@@ -1,115 +1,36 @@
 -- Which entries give numbers, and how what is kept of them stands to the next number.
-use Rattle.std.proofs.Common.{◌≡◌, ℕ, ◌*◌, ◌<◌, ◌≤◌, ◌==◌, ◌&&◌, ◌||◌, not, Bool, true, false, cond, Option, Some, None, is_some, List, [], ◌∷◌, length, suc, nat_lt, refl, ap, sym, ◌∙◌, arith, rules}
+use Rattle.std.proofs.Common.{◌≡◌, ℕ, ◌*◌, ◌<◌, ◌≤◌, ◌&&◌, ◌||◌, not, Bool, true, false, cond, Option, Some, None, is_some, List, [], ◌∷◌, suc, refl, ap, sym, ◌∙◌, arith}
 use Rattle.std.proofs.lemmas.Bool.{or_parts}
-use Rattle.up_num.specs.declared.answers.Outcome.{Outcome}
-use Rattle.up_num.specs.declared.answers.Outcome.TheVariants.{Freed}
-use Rattle.up_num.specs.declared.answers.Packet.{Packet as PacketValue}
 use Rattle.up_num.specs.declared.answers.Refusal.{Refusal}
 use Rattle.up_num.specs.declared.answers.Refusal.TheVariants as refusal
-use Rattle.up_num.specs.declared.pages.PageNo.{PageNo}
-use Rattle.up_model.specs.Attempts.{Access, page_of}
-use Rattle.up_model.specs.Size.{range_fits, access_fits}
+use Rattle.up_model.specs.Size.{range_fits}
 use Rattle.up_model.specs.Deeds.{began_as, dirties, writes, lets_dirty, blanks, supplies, pins_one, drops}
 use Rattle.up_model.specs.Value.{value, marked, there, or_else}
-use Rattle.up_model.specs.States.{plain, dirty, empties}
-use Rattle.up_model.specs.Roles.{detached}
-use Rattle.up_model.specs.Pins.{loaned}
-use Rattle.up_model.specs.Reply.{refuse_where, refuse_at, refuse_unbegun, with_frames, one_where, is_scan, frames_in, must_wait, touch_reply, access_reply, retry_reply, packet_reply, resize_reply, reply}
-use Rattle.up_model.specs.Numbers.{is_began, next_number, has_begun, BeginOf, begin_of, begin_named, dirtied_at, zero_until}
+use Rattle.up_model.specs.States.{plain, empties}
+use Rattle.up_model.specs.Reply.{refuse_where, reply}
+use Rattle.up_model.specs.Numbers.{is_began, next_number, BeginOf, begin_of, begin_named, dirtied_at, zero_until}
+use Rattle.up_model.specs.Answered.{is_begin, may_be_answered}
 use Rattle.up_model.specs.Legal.{Legal}
 use Rattle.up_model.specs.declared.entry.Birth.{Birth}
-use Rattle.up_model.specs.declared.entry.Brought.{Brought}
 use Rattle.up_model.specs.declared.entry.Entry.{Entry}
 use Rattle.up_model.specs.declared.entry.Call.{Call}
 use Rattle.up_model.specs.declared.entry.Call.TheVariants as calls
 use Rattle.up_model.specs.declared.entry.Reply.{Reply}
 use Rattle.up_model.specs.declared.entry.Reply.TheVariants.{Began, Done}
 use Rattle.up_model.proofs.Bools.{and_right, nat_eq_true}
+use Rattle.up_model.proofs.Replying.{answered}
 use Rattle.up_model.proofs.Equations.{value_is, marked_is}
-use Rattle.up_model.proofs.Steps.{page_start}
-
--- a reply that gives no number; one behind refusals, choices and a need of frames gives none where none of them does
-record IsNumberless (r : Reply) : Type 0 where
-  is : is_began r ≡ false
-
-no_refusal : (b : Bool) (why : Refusal) (next : Reply) → IsNumberless next → IsNumberless (refuse_where b why next)
-no_refusal true why next q = record { is = refl }
-no_refusal false why next q = q
-
-no_page : (found : Option ℕ) (why : PageNo → Refusal) (next : Reply) → IsNumberless next → IsNumberless (refuse_at found why next)
-no_page None why next q = q
-no_page (Some p) why next q = record { is = refl }
-
-no_unbegun : (h : List Entry) (of : Option ℕ) (next : Reply) → IsNumberless next → IsNumberless (refuse_unbegun h of next)
-no_unbegun h None next q = q
-no_unbegun h (Some n) next q = no_refusal (not (has_begun h n)) (refusal.NotBegun n) next q
-
-no_choice : (b : Bool) (first second : Reply) → IsNumberless first → IsNumberless second → IsNumberless (cond b first second)
-no_choice true first second p q = p
-no_choice false first second p q = q
-
-numberless : (r : Reply) → is_began r ≡ false → IsNumberless r
-numberless r q = record { is = q }
-
-no_frames : (m : ℕ) (brought : Brought) (next : Reply) → IsNumberless next → IsNumberless (with_frames m brought next)
-no_frames m brought next q =
-    no_choice (m == 0) _ _ q (no_choice (is_scan brought) _ _ (record { is = refl }) (no_choice (nat_lt (frames_in brought) m) _ _ (record { is = refl }) q))
-
-no_wait : (birth : Birth) (h : List Entry) → IsNumberless (must_wait birth h)
-no_wait birth h = no_refusal (detached birth h) _ _ (record { is = refl })
-
-no_touch : (birth : Birth) (h : List Entry) (a : Access) (brought : Brought) (bytes : Option (List ℕ)) → IsNumberless (touch_reply birth h a brought bytes)
-no_touch birth h a brought None = record { is = refl }
-no_touch birth h a brought (Some bytes) =
-    no_choice (birth.trap && not (dirty birth h (page_of a.off))) (must_wait birth h) _ (no_wait birth h)
-    (no_frames (one_where (plain birth h (page_of a.off) || loaned birth h (page_of a.off))) brought Done (record { is = refl }))
-
-no_access : (birth : Birth) (h : List Entry) (a : Access) (brought : Brought) → IsNumberless (access_reply birth h a brought)
-no_access birth h a brought =
-    no_refusal (not (access_fits birth h a)) refusal.Range _
-    (no_choice (there birth h (page_of a.off)) (touch_reply birth h a brought a.bytes) (must_wait birth h) (no_touch birth h a brought a.bytes) (no_wait birth h))
-
-no_retry : (birth : Birth) (h : List Entry) (brought : Brought) (o : Outcome) (a : Option Access) → IsNumberless (retry_reply birth h brought o a)
-no_retry birth h brought Freed (Some a) = no_access birth h a brought
-no_retry birth h brought Freed None = record { is = refl }
-no_retry birth h brought _ a = record { is = refl }
-
-no_packet : (birth : Birth) (h : List Entry) (packet : Option PacketValue) → IsNumberless (packet_reply birth h packet)
-no_packet birth h (Some packet) = record { is = refl }
-no_packet birth h None = no_choice (detached birth h) _ _ (record { is = refl }) (record { is = refl })
-
-no_resize : (birth : Birth) (h : List Entry) (pages : ℕ) (limit : Option ℕ) → IsNumberless (resize_reply birth h pages limit)
-no_resize birth h pages None = record { is = refl }
-no_resize birth h pages (Some limit) = search (rules, no_refusal, no_page, numberless)
+use Rattle.up_model.proofs.OneEntryMore.{page_start}
 
 -- only begins get numbers
-abbrev is_begin : Call → Bool
-is_begin (calls.Begin range only_zero) = true
-is_begin _ = false
+numberless : (call : Call) (r : Reply) → may_be_answered r call ≡ true → is_begin call ≡ false → is_began r ≡ false
+numberless call (Began n) may never = absurd cc
+numberless call _ may never = refl
 
-never_numbers : (birth : Birth) (h : List Entry) (who epoch : ℕ) (call : Call) → is_begin call ≡ false → IsNumberless (reply birth h who epoch call)
-never_numbers birth h who epoch (calls.Begin range only_zero) q = absurd cc
-never_numbers birth h who epoch (calls.Read piece last brought) q =
-    no_access birth h (record { off = piece.off; len = piece.len; last = last.0; bytes = None }) brought
-never_numbers birth h who epoch (calls.Write off bytes last brought) q =
-    no_access birth h (record { off = off; len = length bytes; last = last.0; bytes = Some bytes }) brought
-never_numbers birth h who epoch (calls.Retry ticket brought) q = no_retry birth h brought _ _
-never_numbers birth h who epoch (calls.Supply range bytes brought) q = search (rules, no_refusal, no_choice, numberless)
-never_numbers birth h who epoch (calls.Fail range code) q = search (rules, no_refusal, no_choice, numberless)
-never_numbers birth h who epoch (calls.Dirty range brought) q = search (rules, no_refusal, no_page, no_choice, no_frames, numberless)
-never_numbers birth h who epoch (calls.End range of) q = search (rules, no_refusal, no_unbegun, numberless)
-never_numbers birth h who epoch (calls.Query range room) q = search (rules, no_refusal, no_choice, numberless)
-never_numbers birth h who epoch (calls.Hint range kind) q = search (rules, no_refusal, no_choice, numberless)
-never_numbers birth h who epoch (calls.Pin range brought) q = search (rules, no_refusal, no_page, no_choice, no_frames, numberless)
-never_numbers birth h who epoch (calls.Unpin range) q = search (rules, no_refusal, no_page, no_choice, numberless)
-never_numbers birth h who epoch (calls.Borrow page brought) q = search (rules, no_refusal, no_page, no_choice, no_frames, numberless)
-never_numbers birth h who epoch (calls.Vacate brought) q = search (rules, no_choice, no_frames, numberless)
-never_numbers birth h who epoch (calls.Resize pages) q = no_resize birth h pages birth.limit
-never_numbers birth h who epoch (calls.Zero range) q = search (rules, no_refusal, no_page, no_choice, numberless)
-never_numbers birth h who epoch calls.Detach q = search (rules, no_refusal, no_choice, numberless)
-never_numbers birth h who epoch calls.Packet q = no_packet birth h _
-never_numbers birth h who epoch (calls.Leave role) q = search (rules, no_refusal, no_choice, numberless)
-never_numbers birth h who epoch _ q = record { is = refl }
+never_numbers : (birth : Birth) (h : List Entry) (who epoch : ℕ) (call : Call) →
+    is_begin call ≡ false → is_began (reply birth h who epoch call) ≡ false
+never_numbers birth h who epoch call never =
+    numberless call (reply birth h who epoch call) (answered birth h who epoch call).is never
 
 -- what is known of an entry with a number
 pub record BeginsNext (birth : Birth) (before : List Entry) (call : Call) (n : ℕ) : Type 0 where
@@ -131,7 +52,7 @@ numbered_reply : (birth : Birth) (h : List Entry) (who epoch : ℕ) (call : Call
 numbered_reply birth h who epoch (calls.Begin range only_zero) n is =
     let gives = begin_gives (not (range_fits birth h range)) birth.numbered refusal.Range (next_number h) n is in
     record { numbered = gives.0; next = sym gives.1; about = record { range = range; only_zero = only_zero }; is = refl }
-numbered_reply birth h who epoch call n is = absurd (not_began (reply birth h who epoch call) n (never_numbers birth h who epoch call refl).is is)
+numbered_reply birth h who epoch call n is = absurd (not_began (reply birth h who epoch call) n (never_numbers birth h who epoch call refl) is)
 
 -- in a legal journal only begins get numbers, each the next
 pub entry_numbers : (birth : Birth) (e : Entry) (before : List Entry) → Legal birth (e ∷ before) → (n : ℕ) → e.reply ≡ Began n → BeginsNext birth before e.call n

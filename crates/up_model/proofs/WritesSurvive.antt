@@ -8,7 +8,7 @@ use Rattle.up_model.specs.Deeds.{Named, NoBegin, is_named, named, writes, suppli
 use Rattle.up_model.specs.Value.{value, there, begun_by, settled, or_else}
 use Rattle.up_model.specs.States.{plain, unclean, counts_as, closes, empties}
 use Rattle.up_model.specs.Positions.{first_of, passes_at, beginning, beginning_as, naming, named_at, ending, dirtying}
-use Rattle.up_model.specs.Survival.{writing, writes_byte, given, WithinFrom, Kept, Stays, WroteBack, NoneBegins}
+use Rattle.up_model.specs.Survival.{writing, writes_byte, byte_given, WithinFrom, Kept, Stays, WroteBack, NoneBegins}
 use Rattle.up_model.specs.Legal.{Legal}
 use Rattle.up_model.specs.declared.entry.Birth.{Birth}
 use Rattle.up_model.specs.declared.entry.Entry.{Entry}
@@ -18,7 +18,7 @@ use Rattle.up_model.proofs.Bools.{and_left}
 use Rattle.up_model.proofs.Equations.{begun_by_is, settled_is}
 use Rattle.up_model.proofs.Presence.{value_in, there_is, bytes_stand}
 use Rattle.up_model.proofs.Reclaiming.{evicted_page}
-use Rattle.up_model.proofs.Resting.{cut_beyond}
+use Rattle.up_model.proofs.StateParts.{cut_beyond}
 use Rattle.up_model.proofs.Placing.{first_all, first_before, passes_own, passes_before, passes_kept, passes_below, passes_past, said_before, said_own}
 
 -- the bytes of a page, with one more entry
@@ -52,11 +52,11 @@ kept_more birth e before p i now early kept x within has =
 kept_step : (birth : Birth) (e : Entry) (before : List Entry) → Legal birth (e ∷ before) → (p i : ℕ) → i < length before → there birth before p ≡ true →
     (drops birth before e p || empties birth before e p) ≡ false → Kept birth before p i before → Kept birth (e ∷ before) p i (e ∷ before)
 kept_step birth e before legal p i early here stays kept x within has =
-    let old : value birth before x ≡ given birth before x = kept_more birth e before p i before early kept x within has in
+    let old : value birth before x ≡ byte_given birth before x = kept_more birth e before p i before early kept x within has in
     rw (value_in birth e before p x within, within)
     (byte_step (writes before e p) (supplies e p) (blanks birth before e p) (drops birth before e p || empties birth before e p)
-    (written (attempt before e) x) (supplied e.call x) (value birth before x) (given birth before x)
-    (λ given. supply_blanks_none birth before e.who e.epoch e.call p (and_left _ _ given) e.reply) stays
+    (written (attempt before e) x) (supplied e.call x) (value birth before x) (byte_given birth before x)
+    (λ byte_given. supply_blanks_none birth before e.who e.epoch e.call p (and_left _ _ byte_given) e.reply) stays
     (has_byte birth before legal.0 p x within here) old)
 
 -- of these begins one that counts for p, after which nothing dirtied it
@@ -232,7 +232,7 @@ alive_now birth e before legal p wrote = record {
       subst (λ (o : Option ℕ). is_some o ≡ true) (said_own None (writes_byte x) e before) has in
       let at : writes before e (page_of x) ≡ true = subst (λ (q : ℕ). writes before e q ≡ true) (sym within) wrote in
       rw (value_in birth e before p x within, wrote)
-      (own_byte (writes before e (page_of x)) (written (attempt before e) x) (value birth before x) (given birth before x) _ at said);
+      (own_byte (writes before e (page_of x)) (written (attempt before e) x) (value birth before x) (byte_given birth before x) _ at said);
   begins = λ which is. let wrong : false ≡ true = sym (begun_by_is birth e before which p ∙ rw wrote refl) ∙ is in absurd cc;
 }
 

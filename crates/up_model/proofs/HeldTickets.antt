@@ -5,7 +5,7 @@ use Rattle.up_model.specs.Tickets.{next_ticket, owner, spent, retries, keeps_tic
 use Rattle.up_model.specs.Parked.{retried, waits_after, waits_under}
 use Rattle.up_model.specs.Reply.{proper, is_by}
 use Rattle.up_model.specs.Legal.{Legal}
-use Rattle.up_model.proofs.Blocking.{blocked_entry}
+use Rattle.up_model.proofs.NewTickets.{blocked_entry}
 use Rattle.up_model.proofs.Bools.{and_left, and_right, not_true, and_false, nat_eq_true, nat_eq-same, differ}
 use Rattle.up_model.specs.declared.entry.Birth.{Birth}
 use Rattle.up_model.specs.declared.entry.Entry.{Entry}
@@ -33,7 +33,7 @@ owner_below birth (e ∷ before) legal t who is =
           let grows : next_ticket before ≤ next_ticket (e ∷ before) = next_grows (is_blocked e.reply) (next_ticket before) in omega arith
     ] refl is
 
-is_by_some : (o : Option ℕ) (who : ℕ) → is_by o who ≡ true → o ≡ Some who
+pub is_by_some : (o : Option ℕ) (who : ℕ) → is_by o who ≡ true → o ≡ Some who
 is_by_some None who p = absurd cc
 is_by_some (Some holder) who p = ap (λ (n : ℕ). Some n) (nat_eq_true holder who p)
 

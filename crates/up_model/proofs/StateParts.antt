@@ -17,7 +17,7 @@ use Rattle.up_model.specs.declared.entry.Entry.{Entry}
 use Rattle.up_model.specs.declared.entry.Call.{Call}
 use Rattle.up_model.specs.declared.entry.Call.TheVariants.{Dirty, End, Borrow, Resize}
 use Rattle.up_model.specs.declared.entry.Reply.{Reply}
-use Rattle.up_model.proofs.Bools.{and_left, and_right, not_true, nat_eq_true}
+use Rattle.up_model.proofs.Bools.{and_left, and_right, not_true, nat_eq_true, not_false}
 use Rattle.up_model.proofs.Equations.{marked_is, settled_is, settled_none, value_none}
 use Rattle.up_model.proofs.Passed.{past_where, past_at, past_accepts, past_borrowed, none_in}
 use Rattle.up_model.proofs.Presence.{there_after, there_is, pages_within, accepted_reply}
@@ -60,7 +60,7 @@ plain_unsettled birth (e ∷ before) legal p is =
     (rw (there_is birth e before legal p, marked_is birth e before p) at is))
 
 -- where the object had the page already, unless it grew
-was_within : (call : Call) (r : Reply) (n p : ℕ) → (asks_to_grow call n p && accepts r) ≡ false → p < resized call r n → p < n
+pub was_within : (call : Call) (r : Reply) (n p : ℕ) → (asks_to_grow call n p && accepts r) ≡ false → p < resized call r n → p < n
 was_within (Resize pages) r n p stays low =
     elim (accepts r) as (λ b. ((nat_le n p && nat_lt p pages) && b) ≡ false → p < cond b pages n → p < n) [
       | true ↦ λ q below. grind (arith, nat_tests)
@@ -77,17 +77,13 @@ cut_beyond (Resize pages) r n p is low =
 cut_beyond _ r n p is low = absurd cc
 
 -- leave to make a page dirty is given to pages that are there
-present : (b : Bool) → not b ≡ false → b ≡ true
-present true q = refl
-present false q = absurd cc
-
-leave_there : (birth : Birth) (h : List Entry) (who epoch : ℕ) (call : Call) (p : ℕ) → over_dirty call p ≡ true → accepts (reply birth h who epoch call) ≡ true → there birth h p ≡ true
+pub leave_there : (birth : Birth) (h : List Entry) (who epoch : ℕ) (call : Call) (p : ℕ) → over_dirty call p ≡ true → accepts (reply birth h who epoch call) ≡ true → there birth h p ≡ true
 leave_there birth h who epoch (Dirty range brought) p over is =
     let a = past_where accepts past_accepts (not (range_fits birth h range)) _ _ is in
     let b = past_where accepts past_accepts (not birth.trap) _ _ a.1 in
     let c = past_where accepts past_accepts (detached birth h) _ _ b.1 in
     let d = past_at accepts past_accepts (first_in (absent birth h) range) _ _ c.1 in
-    present _ (none_in (absent birth h) range p d.0 over)
+    not_false _ (none_in (absent birth h) range p d.0 over)
 leave_there birth h who epoch _ p over is = absurd cc
 
 -- what an entry doesn't do to a page
@@ -200,11 +196,11 @@ borrow_finds birth h who epoch (Borrow page brought) p over is =
     let b = past_where says_borrowed past_borrowed (absent birth h page.0) _ _ a.1 in
     let c = past_where says_borrowed past_borrowed (is_pinned h page.0) _ _ b.1 in
     let d = past_where says_borrowed past_borrowed (unclean birth h page.0) _ _ c.1 in
-    let here = present _ b.0 in
+    let here = not_false _ b.0 in
     subst (λ (q : ℕ). LoanedPage birth h q) (nat_eq_true page.0 p over) (record {
       here = here;
       rests = clean_of _ _ here d.0;
-      unpinned = nat_eq_true _ 0 (present _ c.0);
+      unpinned = nat_eq_true _ 0 (not_false _ c.0);
     })
 borrow_finds birth h who epoch _ p over is = absurd cc
 

@@ -1,8 +1,7 @@
 -- A ticket that a call is given is the next one.
-use Rattle.std.proofs.Common.{◌≡◌, ℕ, ◌==◌, ◌&&◌, not, nat_lt, Bool, true, false, cond, Option, Some, None, List, ◌∷◌, length, refl, sym, ◌∙◌, rules}
+use Rattle.std.proofs.Common.{◌≡◌, ℕ, ◌==◌, ◌&&◌, not, nat_lt, Bool, true, false, cond, Option, Some, None, List, ◌∷◌, length, refl, sym, ◌∙◌}
 use Rattle.up_num.specs.declared.answers.Outcome.{Outcome}
 use Rattle.up_num.specs.declared.answers.Outcome.TheVariants.{Freed}
-use Rattle.up_num.specs.declared.answers.Packet.{Packet as PacketValue}
 use Rattle.up_num.specs.declared.answers.Refusal.{Refusal}
 use Rattle.up_num.specs.declared.answers.Refusal.TheVariants.{NoFrames}
 use Rattle.up_num.specs.declared.pages.PageNo.{PageNo}
@@ -11,7 +10,8 @@ use Rattle.up_model.specs.Value.{there}
 use Rattle.up_model.specs.States.{dirty}
 use Rattle.up_model.specs.Roles.{detached}
 use Rattle.up_model.specs.Tickets.{next_ticket}
-use Rattle.up_model.specs.Reply.{refuse_where, refuse_at, with_frames, is_scan, frames_in, must_wait, touch_reply, access_reply, retry_reply, packet_reply, resize_reply, reply}
+use Rattle.up_model.specs.Reply.{refuse_where, refuse_at, with_frames, is_scan, frames_in, must_wait, touch_reply, access_reply, retry_reply, reply}
+use Rattle.up_model.specs.Answered.{may_park, may_be_answered}
 use Rattle.up_model.specs.Legal.{Legal}
 use Rattle.up_model.specs.declared.entry.Birth.{Birth}
 use Rattle.up_model.specs.declared.entry.Brought.{Brought}
@@ -20,6 +20,7 @@ use Rattle.up_model.specs.declared.entry.Call.{Call}
 use Rattle.up_model.specs.declared.entry.Call.TheVariants as calls
 use Rattle.up_model.specs.declared.entry.Reply.{Reply}
 use Rattle.up_model.specs.declared.entry.Reply.TheVariants.{Blocked, Needs, Done, Refused}
+use Rattle.up_model.proofs.Replying.{answered}
 
 -- a reply behind a refusal, a choice or a need of frames parks only where what comes behind it does
 past_refusal : {P : Type 0} (b : Bool) (why : Refusal) (next : Reply) (n : ℕ) → refuse_where b why next ≡ Blocked n → (next ≡ Blocked n → P) → P
@@ -58,65 +59,15 @@ blocked_retry birth h brought Freed (Some a) n is = blocked_access birth h a bro
 blocked_retry birth h brought Freed None n is = absurd cc
 blocked_retry birth h brought _ a n is = absurd cc
 
--- a reply that doesn't park; one that comes behind refusals, choices and a need of frames doesn't where none of them does
-pub record IsParkless (r : Reply) : Type 0 where
-  pub is : is_blocked r ≡ false
-
-no_refusal : (b : Bool) (why : Refusal) (next : Reply) → IsParkless next → IsParkless (refuse_where b why next)
-no_refusal true why next q = record { is = refl }
-no_refusal false why next q = q
-
-no_page : (found : Option ℕ) (why : PageNo → Refusal) (next : Reply) → IsParkless next → IsParkless (refuse_at found why next)
-no_page None why next q = q
-no_page (Some p) why next q = record { is = refl }
-
-no_choice : (b : Bool) (first second : Reply) → IsParkless first → IsParkless second → IsParkless (cond b first second)
-no_choice true first second p q = p
-no_choice false first second p q = q
-
-no_frames : (m : ℕ) (brought : Brought) (next : Reply) → IsParkless next → IsParkless (with_frames m brought next)
-no_frames m brought next q =
-    no_choice (m == 0) _ _ q (no_choice (is_scan brought) _ _ (record { is = refl }) (no_choice (nat_lt (frames_in brought) m) _ _ (record { is = refl }) q))
-
-no_packet : (birth : Birth) (h : List Entry) (packet : Option PacketValue) → IsParkless (packet_reply birth h packet)
-no_packet birth h (Some packet) = record { is = refl }
-no_packet birth h None = no_choice (detached birth h) _ _ (record { is = refl }) (record { is = refl })
-
-parkless : (r : Reply) → is_blocked r ≡ false → IsParkless r
-parkless r q = record { is = q }
-
-no_resize : (birth : Birth) (h : List Entry) (pages : ℕ) (limit : Option ℕ) → IsParkless (resize_reply birth h pages limit)
-no_resize birth h pages None = record { is = refl }
-no_resize birth h pages (Some limit) = search (rules, no_refusal, no_page, parkless)
-
 -- only accesses park
-abbrev pub is_access : Call → Bool
-is_access (calls.Read piece last brought) = true
-is_access (calls.Write off bytes last brought) = true
-is_access (calls.Retry ticket brought) = true
-is_access _ = false
+parkless : (call : Call) (r : Reply) → may_be_answered r call ≡ true → may_park call ≡ false → is_blocked r ≡ false
+parkless call (Blocked t) may never = absurd cc
+parkless call _ may never = refl
 
-pub never_parks : (birth : Birth) (h : List Entry) (who epoch : ℕ) (call : Call) → is_access call ≡ false → IsParkless (reply birth h who epoch call)
-never_parks birth h who epoch (calls.Read piece last brought) q = absurd cc
-never_parks birth h who epoch (calls.Write off bytes last brought) q = absurd cc
-never_parks birth h who epoch (calls.Retry ticket brought) q = absurd cc
-never_parks birth h who epoch (calls.Supply range bytes brought) q = search (rules, no_refusal, no_choice, parkless)
-never_parks birth h who epoch (calls.Fail range code) q = search (rules, no_refusal, no_choice, parkless)
-never_parks birth h who epoch (calls.Dirty range brought) q = search (rules, no_refusal, no_page, no_choice, no_frames, parkless)
-never_parks birth h who epoch (calls.Begin range only_zero) q = search (rules, no_refusal, no_choice, parkless)
-never_parks birth h who epoch (calls.End range of) q = search (rules, no_refusal, no_choice, parkless)
-never_parks birth h who epoch (calls.Query range room) q = search (rules, no_refusal, no_choice, parkless)
-never_parks birth h who epoch (calls.Hint range kind) q = search (rules, no_refusal, no_choice, parkless)
-never_parks birth h who epoch (calls.Pin range brought) q = search (rules, no_refusal, no_page, no_choice, no_frames, parkless)
-never_parks birth h who epoch (calls.Unpin range) q = search (rules, no_refusal, no_page, no_choice, parkless)
-never_parks birth h who epoch (calls.Borrow page brought) q = search (rules, no_refusal, no_page, no_choice, no_frames, parkless)
-never_parks birth h who epoch (calls.Vacate brought) q = search (rules, no_choice, no_frames, parkless)
-never_parks birth h who epoch (calls.Resize pages) q = no_resize birth h pages birth.limit
-never_parks birth h who epoch (calls.Zero range) q = search (rules, no_refusal, no_page, no_choice, parkless)
-never_parks birth h who epoch calls.Detach q = search (rules, no_refusal, no_choice, parkless)
-never_parks birth h who epoch calls.Packet q = no_packet birth h _
-never_parks birth h who epoch (calls.Leave role) q = search (rules, no_refusal, no_choice, parkless)
-never_parks birth h who epoch _ q = record { is = refl }
+pub never_parks : (birth : Birth) (h : List Entry) (who epoch : ℕ) (call : Call) →
+    may_park call ≡ false → is_blocked (reply birth h who epoch call) ≡ false
+never_parks birth h who epoch call never =
+    parkless call (reply birth h who epoch call) (answered birth h who epoch call).is never
 
 not_parked : (r : Reply) (n : ℕ) → is_blocked r ≡ false → r ≡ Blocked n → ⊥
 not_parked (Blocked t) n q is = cc
@@ -129,7 +80,7 @@ blocked_reply birth h who epoch (calls.Read piece last brought) n is =
 blocked_reply birth h who epoch (calls.Write off bytes last brought) n is =
     blocked_access birth h (record { off = off; len = length bytes; last = last.0; bytes = Some bytes }) brought n is
 blocked_reply birth h who epoch (calls.Retry ticket brought) n is = blocked_retry birth h brought _ _ n is
-blocked_reply birth h who epoch call n is = absurd (not_parked (reply birth h who epoch call) n (never_parks birth h who epoch call refl).is is)
+blocked_reply birth h who epoch call n is = absurd (not_parked (reply birth h who epoch call) n (never_parks birth h who epoch call refl) is)
 
 -- what an entry of a legal journal says of the next ticket
 pub blocked_entry : (birth : Birth) (e : Entry) (before : List Entry) → Legal birth (e ∷ before) → (n : ℕ) → e.reply ≡ Blocked n → n ≡ next_ticket before

@@ -28,12 +28,12 @@ use Rattle.up_model.specs.declared.entry.Reply.{Reply}
 use Rattle.up_model.specs.declared.entry.Reply.TheVariants as answer
 use Rattle.up_model.proofs.Bools.{and_left}
 use Rattle.up_model.proofs.Equations.{value_is, marked_is, begun_is, settled_is}
-use Rattle.up_model.proofs.Steps.{Idle, idle_byte, idle_there, idle_marked, idle_begun, idle_settled, idle_kept, keeps_pages, page_start, page_inside, value_supply, marked_supply, begun_supply, settled_supply, there_supply, value_dirty, value_begin, value_pin, value_end, value_drop, write_blanks_none}
-use Rattle.up_model.proofs.Effects.{PageIs, after_begin, after_end, after_dirty, after_pin, after_zero, after_growth, after_cut, after_evict, after_vacate, after_write, value_zero, value_growth, value_write}
+use Rattle.up_model.proofs.OneEntryMore.{Idle, idle_byte, idle_there, idle_marked, idle_begun, idle_settled, idle_kept, keeps_pages, page_start, page_inside, value_supply, marked_supply, begun_supply, settled_supply, there_supply, value_dirty, value_begin, value_pin, value_end, value_drop, write_blanks_none}
+use Rattle.up_model.proofs.Effects.{PageIs, after_begin, after_end, after_dirty, after_pin, after_zero, after_growth, after_cut, after_evict, after_vacate, after_write, value_zero, value_growth, value_write, cut_grows_not}
 use Rattle.up_model.proofs.Presence.{bytes_stand}
 use Rattle.up_model.proofs.Passed.{covers_bounds}
-use Rattle.up_model.proofs.Resting.{absent_settled, loaned_page}
-use Rattle.up_model.proofs.Quiet.{loan_kept, always_kept, idle_undirtied}
+use Rattle.up_model.proofs.StateParts.{absent_settled, loaned_page}
+use Rattle.up_model.proofs.UnconcernedPages.{loan_kept, always_kept, idle_undirtied}
 
 none_so : (v : Option ℕ) → is_some v ≡ false → v ≡ None
 none_so None q = refl
@@ -55,9 +55,6 @@ pinned_by true false s b l = refl
 
 grown_uncut : (pages n p : ℕ) → asks_to_grow (calls.Resize pages) n p ≡ true → asks_to_cut (calls.Resize pages) n p ≡ false
 grown_uncut pages n p g = grind (arith, nat_tests)
-
-cut_grows_none : (pages n p : ℕ) → asks_to_cut (calls.Resize pages) n p ≡ true → asks_to_grow (calls.Resize pages) n p ≡ false
-cut_grows_none pages n p t = grind (arith, nat_tests)
 
 -- what a page's tests are, where an end that is for it or not takes it away
 emptied_byte : (here mark rest run loan ended : Bool) (old : Option ℕ) → is_present (look_by here mark rest run loan) ≡ true →
@@ -306,7 +303,7 @@ cut_vanishes birth e h pages p c a t none = record {
   bytes = λ i lt. value_drop birth e h (4096 * p + i) (rw (page_inside p i lt, c, a, t) refl);
   unpinned = rw c none;
   unprotected = rw (c, a, t) refl;
-  undirtied = let stays = cut_grows_none pages (size birth h) p t in rw (c, stays) refl;
+  undirtied = let stays = cut_grows_not pages (size birth h) p t in rw (c, stays) refl;
 }
 
 -- An evict or a vacate that lists it as evicted.
