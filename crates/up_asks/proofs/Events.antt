@@ -8,7 +8,7 @@ use Rattle.up_num.specs.declared.answers.AskKind.{AskKind}
 use Rattle.up_num.specs.declared.answers.Outcome.{Outcome}
 use Rattle.up_num.specs.declared.answers.Outcome.TheVariants.{Waiting, Freed, Failed, Detached, Shrunk}
 use Rattle.up_asks.specs.Asking.{all_detached, event_of, events_of, ticket_after, fixes, fixed_among}
-use Rattle.up_asks.specs.Keeps.{waiting_among, waits, is_fixed, still_waiting, fixed_of, put_after, settled, AllFixed}
+use Rattle.up_asks.specs.Keeps.{waiting_among, waits, is_fixed, still_waiting, fixed_of, put_after, tickets_after, AllFixed}
 use Rattle.up_asks.specs.declared.event.Event.{Event}
 use Rattle.up_asks.specs.declared.ticket.Ticket.{Ticket}
 
@@ -84,16 +84,16 @@ moved : {X : Type 0} (F : List Ticket → ℕ → X) (ps : List Ticket) (t : Tic
 moved F ps t ts = sym (ap (λ xs. F xs (length (ps ++ t ∷ []))) (append_assoc ps (t ∷ []) ts) ∙ ap (λ n. F (ps ++ t ∷ ts) n) (length_push ps t))
 
 -- what the events make of the tickets that wait is what they make of all
-settled_by : (f : AskKind → ℕ → Outcome) (ps ts : List Ticket) → settled f (ps ++ ts) (waiting_among ts (length ps)) ≡ ps ++ map (ticket_after f) ts
+settled_by : (f : AskKind → ℕ → Outcome) (ps ts : List Ticket) → tickets_after f (ps ++ ts) (waiting_among ts (length ps)) ≡ ps ++ map (ticket_after f) ts
 settled_by f ps [] = refl
 settled_by f ps (t ∷ ts) = elim (is_waiting t.outcome) as (λ b. is_waiting t.outcome ≡ b →
-    settled f (ps ++ t ∷ ts) (cond b (length ps ∷ waiting_among ts (length ps + 1)) (waiting_among ts (length ps + 1))) ≡ ps ++ ticket_after f t ∷ map (ticket_after f) ts) [
-      | true ↦ λ h. ap (λ o. settled f (put_after f (ps ++ t ∷ ts) (length ps) o) (waiting_among ts (length ps + 1))) (get_here ps t ts)
-          ∙ ap (λ xs. settled f xs (waiting_among ts (length ps + 1))) (set_at ps t ts (ticket_after f t) (length ps) refl)
-          ∙ moved (λ xs n. settled f xs (waiting_among ts n)) ps (ticket_after f t) ts
+    tickets_after f (ps ++ t ∷ ts) (cond b (length ps ∷ waiting_among ts (length ps + 1)) (waiting_among ts (length ps + 1))) ≡ ps ++ ticket_after f t ∷ map (ticket_after f) ts) [
+      | true ↦ λ h. ap (λ o. tickets_after f (put_after f (ps ++ t ∷ ts) (length ps) o) (waiting_among ts (length ps + 1))) (get_here ps t ts)
+          ∙ ap (λ xs. tickets_after f xs (waiting_among ts (length ps + 1))) (set_at ps t ts (ticket_after f t) (length ps) refl)
+          ∙ moved (λ xs n. tickets_after f xs (waiting_among ts n)) ps (ticket_after f t) ts
           ∙ settled_by f (ps ++ ticket_after f t ∷ []) ts
           ∙ append_assoc ps (ticket_after f t ∷ []) (map (ticket_after f) ts)
-      | false ↦ λ h. moved (λ xs n. settled f xs (waiting_among ts n)) ps t ts
+      | false ↦ λ h. moved (λ xs n. tickets_after f xs (waiting_among ts n)) ps t ts
           ∙ settled_by f (ps ++ t ∷ []) ts
           ∙ append_assoc ps (t ∷ []) (map (ticket_after f) ts)
           ∙ ap (λ (x : Ticket). ps ++ x ∷ map (ticket_after f) ts) (sym (after_same f t h))
@@ -146,8 +146,8 @@ fixed_by : (f : AskKind → ℕ → Outcome) (ps ts : List Ticket) → fixed_of 
 fixed_by f ps [] = refl
 fixed_by f ps (t ∷ ts) = fixed_cases f ps ts t (is_waiting t.outcome) refl (fixed_later f ps ts t (fixed_by f (ps ++ t ∷ []) ts))
 
-pub settled_all : (f : AskKind → ℕ → Outcome) (ts : List Ticket) (waiting : List ℕ) → waiting ≡ waiting_among ts 0 → settled f ts waiting ≡ map (ticket_after f) ts
-settled_all f ts waiting is = ap (λ ws. settled f ts ws) is ∙ settled_by f [] ts
+pub settled_all : (f : AskKind → ℕ → Outcome) (ts : List Ticket) (waiting : List ℕ) → waiting ≡ waiting_among ts 0 → tickets_after f ts waiting ≡ map (ticket_after f) ts
+settled_all f ts waiting is = ap (λ ws. tickets_after f ts ws) is ∙ settled_by f [] ts
 
 pub still_all : (f : AskKind → ℕ → Outcome) (ts : List Ticket) (waiting : List ℕ) → waiting ≡ waiting_among ts 0 →
     still_waiting (map (ticket_after f) ts) waiting ≡ waiting_among (map (ticket_after f) ts) 0

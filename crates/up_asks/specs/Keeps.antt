@@ -36,9 +36,9 @@ put_after events tickets n None = tickets
 put_after events tickets n (Some ticket) = slice_set tickets n (ticket_after events ticket)
 
 -- the tickets after the events happened to those with these numbers
-abbrev pub settled : (AskKind → ℕ → Outcome) → List Ticket → List ℕ → List Ticket
-settled events tickets [] = tickets
-settled events tickets (n ∷ rest) = settled events (put_after events tickets n (slice_get tickets n)) rest
+abbrev pub tickets_after : (AskKind → ℕ → Outcome) → List Ticket → List ℕ → List Ticket
+tickets_after events tickets [] = tickets
+tickets_after events tickets (n ∷ rest) = tickets_after events (put_after events tickets n (slice_get tickets n)) rest
 
 -- Complete has its place from the start on
 abbrev pub complete_place : Bool → ℕ

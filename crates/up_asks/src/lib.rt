@@ -1,4 +1,5 @@
 //! What is asked of a pager: the pages asked for, the packets sent, and the tickets of those who wait.
+//! Used by itself in `up_container_tests`.
 #![tactic(auto)]
 
 mod asks;

@@ -2,7 +2,7 @@
 ghost use Rattle.std.specs.Prelude.{◌≡◌, ◌≤◌, map, slice_get, vec_len, IfOk};
 ghost use Rattle.std.specs.Vec.{vec_capacity};
 ghost use Rattle.up_asks.specs.Asking.{all_detached, events_of, fixed_among, ticket_after};
-ghost use Rattle.up_asks.specs.Keeps.{waiting_among, waits, is_fixed, still_waiting, fixed_of, settled, put_after};
+ghost use Rattle.up_asks.specs.Keeps.{waiting_among, waits, is_fixed, still_waiting, fixed_of, tickets_after, put_after};
 
 use crate::event::{Event, after_events, first_of, fixes_ticket, is_waiting};
 use crate::ticket::Ticket;
@@ -88,7 +88,7 @@ fn settle_one(tickets: &mut Vec<Ticket>, events: &[Event], number: u64)
 
 /// Lets the events happen to the tickets of these numbers.
 fn settle_all(tickets: &mut Vec<Ticket>, waiting: &Vec<u64>, events: &[Event])
-    ensures items { tickets.new.items ≡ settled (events_of events.now) tickets.old.items waiting.now.items }
+    ensures items { tickets.new.items ≡ tickets_after (events_of events.now) tickets.old.items waiting.now.items }
     ensures len { vec_len tickets.new ≡ vec_len tickets.old }
     ensures room { vec_capacity tickets.new ≡ vec_capacity tickets.old }
 {

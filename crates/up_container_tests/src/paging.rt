@@ -12,22 +12,22 @@ use up_num::{DirtyRange, PageNo, PageRange, PageState};
 use up_pages::{Frames, Look, PageList};
 
 // A page list whose frames are all of one bank.
-struct Desk {
+struct TestedPages {
     bank: Bank,
     seat: BankSeat,
     pages: PageList,
 }
 
-impl Model for Desk {
+impl Model for TestedPages {
     ghost use Rattle.std.specs.Prelude.{◌≡◌, ℕ, Some};
     ghost use Rattle.up_bank.specs.Standing.{Held};
-    ghost use Rattle.up_pages.specs.Pages.{PageMap, size_of, page_at, frame_of};
+    ghost use Rattle.up_pages.specs.Pages.{size_of, page_at, frame_of};
 
     ghost Value = { ℕ };
 
-    ghost view = { λ desk. size_of desk.pages };
+    ghost view = { λ tested. size_of tested.pages };
 
-    ghost invariant = { λ desk. (desk.seat.bank ≡ desk.bank) × ((p : ℕ) (frame : Held) → frame_of (page_at desk.pages p) ≡ Some frame → frame.bank ≡ desk.bank) };
+    ghost invariant = { λ tested. (tested.seat.bank ≡ tested.bank) × ((p : ℕ) (frame : Held) → frame_of (page_at tested.pages p) ≡ Some frame → frame.bank ≡ tested.bank) };
 }
 
 fn give_some(bank: &Bank, seat: &mut BankSeat, frame: Option<Frame>) -> bool
@@ -56,7 +56,7 @@ fn give_all(bank: &Bank, seat: &mut BankSeat, frames: Frames)
     frames.end();
 }
 
-#[tactic(auto, using(up_pages::proofs::Banked::each_join))]
+#[tactic(auto, using(up_pages::proofs::FramesOfPages::each_join))]
 fn claim_into(bank: &Bank, seat: &mut BankSeat, frames: &mut Frames)
     requires seat { seat.old.bank ≡ bank.now }
     requires frames { Each (λ out. out.bank ≡ bank.now) frames.old.items }
@@ -71,14 +71,14 @@ fn claim_into(bank: &Bank, seat: &mut BankSeat, frames: &mut Frames)
     }
 }
 
-impl Desk {
+impl TestedPages {
     // So many absent pages, and a bank of four frames.
-    fn new(alloc: Global, kind: FrameKind, pages: u32) -> Result<Desk, Fail>
-        ensures { IfOk result (λ desk. desk ≡ pages) }
+    fn new(alloc: Global, kind: FrameKind, pages: u32) -> Result<TestedPages, Fail>
+        ensures { IfOk result (λ tested. tested ≡ pages) }
     {
         let (bank, seat) = Bank::new(alloc, kind, 4)?;
         let pages = PageList::new(alloc, pages)?;
-        Ok(Desk { bank, seat, pages })
+        Ok(TestedPages { bank, seat, pages })
     }
 
     // Puts a frame under a page. Was one displaced?
@@ -93,7 +93,7 @@ impl Desk {
     }
 }
 
-impl Desk {
+impl TestedPages {
     fn take(&mut self, rt: &impl Abort, page: u32) -> bool
         requires { page < self.old }
         ensures { self.new ≡ self.old }
@@ -171,9 +171,9 @@ impl Desk {
         self.pages.grow(pages).expect(rt, "memory");
     }
 
-    // Spends the desk. How many frames were not at home?
+    // Spends the tested. How many frames were not at home?
     fn end(self) -> u32 {
-        let Desk {
+        let TestedPages {
             bank,
             mut seat,
             pages,
@@ -196,11 +196,11 @@ const LOOKS: [Look; 4] = [
 fn frames_come_back_from_every_page(rt: HostRuntime) -> Result<(), Fail> {
     for was in LOOKS {
         for to in LOOKS {
-            let mut desk = Desk::new(rt.alloc(), FrameKind::Loaned, 3)?;
-            let first = desk.bring(&rt, 1, was);
-            let displaced = desk.bring(&rt, 1, to);
-            let looks = [0, 1, 2].map(|page| desk.pages.look(PageNo(page)));
-            let held = desk.end();
+            let mut tested = TestedPages::new(rt.alloc(), FrameKind::Loaned, 3)?;
+            let first = tested.bring(&rt, 1, was);
+            let displaced = tested.bring(&rt, 1, to);
+            let looks = [0, 1, 2].map(|page| tested.pages.look(PageNo(page)));
+            let held = tested.end();
             let was_held = matches!(was, Look::Held(_, _));
             let is_held = matches!(to, Look::Held(_, _));
             assert!(rt; !first && displaced == was_held, "{was:?} to {to:?}");
@@ -216,15 +216,16 @@ fn frames_come_back_from_every_page(rt: HostRuntime) -> Result<(), Fail> {
 
 #[test]
 fn bytes_are_written_in_place(rt: HostRuntime) -> Result<(), Fail> {
-    let mut desk = Desk::new(rt.alloc(), FrameKind::Ordinary, 2)?;
-    desk.put(&rt, 0, Clean);
-    desk.put(&rt, 1, Clean);
-    desk.write(&rt, 1, 4092, b"page");
-    desk.set_state(&rt, 1, Dirty);
-    let written = matches!(desk.pages.bytes(PageNo(1)), Some(bytes) if bytes.ends_with(b"\0page"));
-    let other = matches!(desk.pages.bytes(PageNo(0)), Some(bytes) if bytes.ends_with(b"\0\0"));
-    let looks = [0, 1, 2].map(|page| desk.pages.look(PageNo(page)));
-    desk.end();
+    let mut tested = TestedPages::new(rt.alloc(), FrameKind::Ordinary, 2)?;
+    tested.put(&rt, 0, Clean);
+    tested.put(&rt, 1, Clean);
+    tested.write(&rt, 1, 4092, b"page");
+    tested.set_state(&rt, 1, Dirty);
+    let written =
+        matches!(tested.pages.bytes(PageNo(1)), Some(bytes) if bytes.ends_with(b"\0page"));
+    let other = matches!(tested.pages.bytes(PageNo(0)), Some(bytes) if bytes.ends_with(b"\0\0"));
+    let looks = [0, 1, 2].map(|page| tested.pages.look(PageNo(page)));
+    tested.end();
     assert!(rt; written && other);
     assert!(rt;
         looks
@@ -249,23 +250,23 @@ fn run(first: u32, count: u32, zero: bool) -> DirtyRange
 
 #[test]
 fn unclean_pages_make_runs(rt: HostRuntime) -> Result<(), Fail> {
-    let mut desk = Desk::new(rt.alloc(), FrameKind::Ordinary, 8)?;
-    desk.set_zero(&rt, 0, Dirty);
-    desk.set_zero(&rt, 1, Dirty);
-    desk.set_zero(&rt, 6, Dirty);
-    desk.put(&rt, 2, Dirty);
-    desk.put(&rt, 3, Dirty);
-    desk.put(&rt, 5, Clean);
+    let mut tested = TestedPages::new(rt.alloc(), FrameKind::Ordinary, 8)?;
+    tested.set_zero(&rt, 0, Dirty);
+    tested.set_zero(&rt, 1, Dirty);
+    tested.set_zero(&rt, 6, Dirty);
+    tested.put(&rt, 2, Dirty);
+    tested.put(&rt, 3, Dirty);
+    tested.put(&rt, 5, Clean);
     let all = PageRange { first: 0, count: 8 };
-    let (found, total) = desk.pages.runs(rt.alloc(), all, 9).expect(&rt, "memory");
-    let (first, _) = desk.pages.runs(rt.alloc(), all, 1).expect(&rt, "memory");
+    let (found, total) = tested.pages.runs(rt.alloc(), all, 9).expect(&rt, "memory");
+    let (first, _) = tested.pages.runs(rt.alloc(), all, 1).expect(&rt, "memory");
     let part = PageRange { first: 1, count: 2 };
-    let (within, _) = desk.pages.runs(rt.alloc(), part, 9).expect(&rt, "memory");
-    desk.mark(&rt, part, AwaitingClean, true);
-    let marked = [0, 1, 2].map(|page| desk.pages.look(PageNo(page)));
-    desk.mark(&rt, all, AwaitingClean, false);
-    let later = [1, 3, 4, 5].map(|page| desk.pages.look(PageNo(page)));
-    desk.end();
+    let (within, _) = tested.pages.runs(rt.alloc(), part, 9).expect(&rt, "memory");
+    tested.mark(&rt, part, AwaitingClean, true);
+    let marked = [0, 1, 2].map(|page| tested.pages.look(PageNo(page)));
+    tested.mark(&rt, all, AwaitingClean, false);
+    let later = [1, 3, 4, 5].map(|page| tested.pages.look(PageNo(page)));
+    tested.end();
     assert!(rt;
         found.as_slice() == [run(0, 2, true), run(2, 2, false), run(6, 1, true)].as_slice()
     );
@@ -295,16 +296,16 @@ fn unclean_pages_make_runs(rt: HostRuntime) -> Result<(), Fail> {
 
 #[test]
 fn a_list_grows_and_is_cut(rt: HostRuntime) -> Result<(), Fail> {
-    let mut desk = Desk::new(rt.alloc(), FrameKind::Ordinary, 2)?;
-    desk.put(&rt, 0, Clean);
-    desk.grow(&rt, 5);
-    desk.put(&rt, 1, Clean);
-    desk.put(&rt, 4, Dirty);
-    let grown = desk.pages.size();
-    let back = desk.cut(rt.alloc(), 1).expect(&rt, "memory");
-    let looks = [0, 1, 4].map(|page| desk.pages.look(PageNo(page)));
-    let none = desk.cut(rt.alloc(), 1).expect(&rt, "memory");
-    let held = desk.end();
+    let mut tested = TestedPages::new(rt.alloc(), FrameKind::Ordinary, 2)?;
+    tested.put(&rt, 0, Clean);
+    tested.grow(&rt, 5);
+    tested.put(&rt, 1, Clean);
+    tested.put(&rt, 4, Dirty);
+    let grown = tested.pages.size();
+    let back = tested.cut(rt.alloc(), 1).expect(&rt, "memory");
+    let looks = [0, 1, 4].map(|page| tested.pages.look(PageNo(page)));
+    let none = tested.cut(rt.alloc(), 1).expect(&rt, "memory");
+    let held = tested.end();
     assert_eq!(rt; [grown, back, none, held], [5, 2, 0, 1]);
     assert!(rt;
         looks

@@ -2,7 +2,7 @@ ghost use Rattle.std.specs.Prelude.{◌≡◌, ◌^◌, ◌<◌, length, vec_len
 
 use std::alloc::Global;
 use std::test::Fail;
-use up_evictor::{Cull, Herd, Level, Levels, relieve};
+use up_evictor::{Herd, Level, Levels, Reclaim, relieve};
 use up_num::{Memory, PageNo, PageSeq};
 
 // Objects that have so many old pages and so many others.
@@ -10,7 +10,7 @@ use up_num::{Memory, PageNo, PageSeq};
 struct Pen {
     old: Vec<u32>,
     young: Vec<u32>,
-    culls: Vec<Cull>,
+    reclaims: Vec<Reclaim>,
     ghost same: { vec_len old ≡ vec_len young },
     ghost few: { vec_len old < 2 ^ 32 },
 }
@@ -24,7 +24,7 @@ impl Herd for Pen {
 
     ghost size = { λ pen. vec_len pen.old };
 
-    ghost culls = { λ pen. reverse pen.culls.items };
+    ghost reclaims = { λ pen. reverse pen.reclaims.items };
 
     fn objects(&self) -> u32 {
         self.old.len() as u32
@@ -45,13 +45,13 @@ impl Herd for Pen {
         };
         let given = max.min(has);
         let pages = pages_of(alloc, given)?;
-        let cull = Cull {
+        let reclaim = Reclaim {
             object,
             limit,
             max,
             given,
         };
-        if self.culls.push(cull).is_err() {
+        if self.reclaims.push(reclaim).is_err() {
             return Err(Memory {});
         }
         if limit >= 4 {
@@ -83,12 +83,12 @@ fn make_pen(alloc: Global, old: [u32; 3], young: [u32; 3]) -> Result<Pen, Memory
     Ok(Pen {
         old,
         young,
-        culls: Vec::new(alloc),
+        reclaims: Vec::new(alloc),
     })
 }
 
-fn asked(object: u32, limit: u32, max: u32, given: u32) -> Cull {
-    Cull {
+fn one_reclaim(object: u32, limit: u32, max: u32, given: u32) -> Reclaim {
+    Reclaim {
         object,
         limit,
         max,
@@ -116,14 +116,14 @@ fn old_pages_go_first_and_then_others(rt: HostRuntime) -> Result<(), Fail> {
     let mut pen = make_pen(rt.alloc(), [2, 0, 1], [1, 9, 9])?;
     let relief = relieve(rt.alloc(), &mut pen, 6, Level::Empty)?;
     assert_eq!(rt; (relief.freed, relief.short), (6, false));
-    let culls = [
-        asked(0, 4, 6, 2),
-        asked(1, 4, 4, 0),
-        asked(2, 4, 4, 1),
-        asked(0, 0, 3, 1),
-        asked(1, 0, 2, 2),
+    let reclaims = [
+        one_reclaim(0, 4, 6, 2),
+        one_reclaim(1, 4, 4, 0),
+        one_reclaim(2, 4, 4, 1),
+        one_reclaim(0, 0, 3, 1),
+        one_reclaim(1, 0, 2, 2),
     ];
-    assert!(rt; pen.culls.as_slice() == culls.as_slice());
+    assert!(rt; pen.reclaims.as_slice() == reclaims.as_slice());
     Ok(())
 }
 
@@ -131,10 +131,14 @@ fn old_pages_go_first_and_then_others(rt: HostRuntime) -> Result<(), Fail> {
 fn a_warning_takes_old_pages_alone(rt: HostRuntime) -> Result<(), Fail> {
     let mut pen = make_pen(rt.alloc(), [2, 0, 1], [1, 9, 9])?;
     let none = relieve(rt.alloc(), &mut pen, 6, Level::Normal)?;
-    assert_eq!(rt; (none.freed, none.short, pen.culls.len()), (0, true, 0));
+    assert_eq!(rt; (none.freed, none.short, pen.reclaims.len()), (0, true, 0));
     let relief = relieve(rt.alloc(), &mut pen, 6, Level::Warning)?;
     assert_eq!(rt; (relief.freed, relief.short), (3, true));
-    let culls = [asked(0, 4, 6, 2), asked(1, 4, 4, 0), asked(2, 4, 4, 1)];
-    assert!(rt; pen.culls.as_slice() == culls.as_slice());
+    let reclaims = [
+        one_reclaim(0, 4, 6, 2),
+        one_reclaim(1, 4, 4, 0),
+        one_reclaim(2, 4, 4, 1),
+    ];
+    assert!(rt; pen.reclaims.as_slice() == reclaims.as_slice());
     Ok(())
 }

@@ -1,4 +1,4 @@
-ghost use Rattle.std.specs.Prelude.{◌≡◌, [], ◌∷◌, ◌++◌, true, false, length, IfOk};
+ghost use Rattle.std.specs.Prelude.{◌≡◌, true, false, IfOk};
 ghost use Rattle.up_turn.specs.Placing.{has};
 ghost use Rattle.up_turn.specs.Standing.{first_pass};
 ghost use Rattle.up_turn.specs.Added.{Stays};
@@ -10,19 +10,19 @@ use std::thread;
 use std::thread::Threads;
 use up_model::{Call, Entry, Reply};
 use up_num::Memory;
-use up_turn::sheet::{Sheet, add};
+use up_turn::plain_journal::{PlainJournal, add};
 use up_turn::{Pass, Turn};
 
-// A turn over an empty sheet, and its first pass.
-fn begin(alloc: Global, actors: u32) -> Result<(Turn<Sheet>, Pass<Sheet>), Memory>
+// A turn over an empty journal, and its first pass.
+fn begin(alloc: Global, actors: u32) -> Result<(Turn<PlainJournal>, Pass<PlainJournal>), Memory>
     ensures turn { IfOk result (λ made. made.0.actors ≡ actors) }
     ensures pass { IfOk result (λ made. made.1 ≡ first_pass made.0.table actors) }
 {
-    let sheet = Sheet {
+    let journal = PlainJournal {
         number: 7,
         entries: Vec::new(alloc),
     };
-    match Turn::new(alloc, sheet, actors) {
+    match Turn::new(alloc, journal, actors) {
         Ok(made) => Ok(made),
         Err((memory, _)) => Err(memory),
     }
@@ -50,10 +50,12 @@ fn two_actors_take_turns(rt: HostRuntime) -> Result<(), Fail> {
     add(&rt, &turn, &mut second, entry(1, 11))?;
     let after = turn.front(&mut first);
     turn.join(&mut first, second);
-    let sheet = turn.close(first);
+    let journal = turn.close(first);
     assert_eq!(rt; (before, between, after), (0, 1, 2));
     assert!(rt;
-        sheet.entries.len() == 2 && sheet.entries[0].epoch == 10 && sheet.entries[1].epoch == 11
+        journal.entries.len() == 2
+            && journal.entries[0].epoch == 10
+            && journal.entries[1].epoch == 11
     );
     Ok(())
 }
@@ -61,7 +63,12 @@ fn two_actors_take_turns(rt: HostRuntime) -> Result<(), Fail> {
 const EACH: u64 = 1_000;
 
 // Adds many entries, numbered from 0 on. Whether all were added, and no look at the front found less than one before.
-fn add_many<R: Wait>(rt: &R, turn: &Turn<Sheet>, pass: &mut Pass<Sheet>, who: u32) -> bool
+fn add_many<R: Wait>(
+    rt: &R,
+    turn: &Turn<PlainJournal>,
+    pass: &mut Pass<PlainJournal>,
+    who: u32,
+) -> bool
     requires turn { pass.old.turn ≡ turn.now.table }
     requires outside { pass.old.inside ≡ false }
     requires holds { has pass.old.numbers who ≡ true }
@@ -81,11 +88,11 @@ fn add_many<R: Wait>(rt: &R, turn: &Turn<Sheet>, pass: &mut Pass<Sheet>, who: u3
 // Four threads add entries at once, each by a number of its own.
 fn add_at_once<R: Threads + Wait + Sync>(
     rt: &R,
-    turn: &Turn<Sheet>,
-    first: &mut Pass<Sheet>,
-    second: &mut Pass<Sheet>,
-    third: &mut Pass<Sheet>,
-    fourth: &mut Pass<Sheet>,
+    turn: &Turn<PlainJournal>,
+    first: &mut Pass<PlainJournal>,
+    second: &mut Pass<PlainJournal>,
+    third: &mut Pass<PlainJournal>,
+    fourth: &mut Pass<PlainJournal>,
 ) -> bool
     requires turn { (first.old.turn ≡ turn.now.table) × (second.old.turn ≡ turn.now.table) × (third.old.turn ≡ turn.now.table) × (fourth.old.turn ≡ turn.now.table) }
     requires outside { (first.old.inside ≡ false) × (second.old.inside ≡ false) × (third.old.inside ≡ false) × (fourth.old.inside ≡ false) }
@@ -114,10 +121,10 @@ fn add_at_once<R: Threads + Wait + Sync>(
 // Two threads do.
 fn add_two<R: Threads + Wait + Sync>(
     rt: &R,
-    turn: &Turn<Sheet>,
-    first: &mut Pass<Sheet>,
+    turn: &Turn<PlainJournal>,
+    first: &mut Pass<PlainJournal>,
     one: u32,
-    second: &mut Pass<Sheet>,
+    second: &mut Pass<PlainJournal>,
     two: u32,
 ) -> (bool, bool)
     requires turn { (first.old.turn ≡ turn.now.table) × (second.old.turn ≡ turn.now.table) }
@@ -133,10 +140,10 @@ fn add_two<R: Threads + Wait + Sync>(
     )
 }
 
-// Whether the sheet has the entries 0 to 999 of each of four actors, in that order, and no other.
-fn has_all_in_order(sheet: &Sheet) -> bool {
+// Whether the journal has the entries 0 to 999 of each of four actors, in that order, and no other.
+fn has_all_in_order(journal: &PlainJournal) -> bool {
     let mut next = [0; 4];
-    for entry in &sheet.entries {
+    for entry in &journal.entries {
         let who = entry.who as usize;
         if who >= 4 || entry.epoch != next[who] {
             return false;
@@ -157,9 +164,9 @@ fn four_threads_add_a_thousand_entries_each(rt: HostRuntime) -> Result<(), Fail>
     turn.join(&mut first, second);
     turn.join(&mut first, third);
     let front = turn.front(&mut first);
-    let sheet = turn.close(first);
+    let journal = turn.close(first);
     assert!(rt; good);
     assert_eq!(rt; front, 4 * EACH);
-    assert!(rt; has_all_in_order(&sheet));
+    assert!(rt; has_all_in_order(&journal));
     Ok(())
 }

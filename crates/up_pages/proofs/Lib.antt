@@ -1,5 +1,5 @@
-pub mod Counting
+pub mod HeldCounts
 pub mod Places
-pub mod Taking
+pub mod PagesTaken
 pub mod OneMore
-pub mod Banked
+pub mod FramesOfPages

@@ -5,7 +5,7 @@ use Rattle.up_num.specs.declared.pages.DirtyRange.{DirtyRange}
 use Rattle.up_span.specs.Runs.{kind_runs, closed_kind, same_kind_of_page}
 use Rattle.up_pages.specs.Pages.{dirty_run}
 use Rattle.up_pages.specs.Runs.{run_after, HasPages}
-use Rattle.up_pages.specs.declared.runs.Run.{Run}
+use Rattle.up_pages.specs.declared.runs.OpenRun.{OpenRun}
 
 next_place : (first place : ℕ) → first + place + 1 ≡ first + (place + 1)
 next_place first place = omega arith
@@ -22,10 +22,10 @@ kinds_more kind p now c (suc n) h =
     ap (λ k. cond (same_kind_of_page (kind p) now) (kind_runs kind (p + 1) now (c + 1) k) (closed_kind p now c ++ kind_runs kind (p + 1) (kind p) 1 k)) less
 
 -- the run after one page more, as two choices
-abbrev pub after_kind : Bool → Option Bool → Run → Run
+abbrev pub after_kind : Bool → Option Bool → OpenRun → OpenRun
 after_kind same new run = cond same (record { kind = run.kind; count = run.count + 1 }) (record { kind = new; count = 1 })
 
-kinds_by : (kind : ℕ → Option Bool) (same : Bool) (new : Option Bool) (xs : List DirtyRange) (p : ℕ) (run : Run) (n : ℕ) →
+kinds_by : (kind : ℕ → Option Bool) (same : Bool) (new : Option Bool) (xs : List DirtyRange) (p : ℕ) (run : OpenRun) (n : ℕ) →
     xs ++ map dirty_run (cond same (kind_runs kind (p + 1) run.kind (run.count + 1) n) (closed_kind p run.kind run.count ++ kind_runs kind (p + 1) new 1 n))
     ≡ cond same xs (xs ++ map dirty_run (closed_kind p run.kind run.count))
     ++ map dirty_run (kind_runs kind (p + 1) (after_kind same new run).kind (after_kind same new run).count n)
@@ -34,7 +34,7 @@ kinds_by kind false new xs p run n =
     ap (λ ys. xs ++ ys) (map-append dirty_run (closed_kind p run.kind run.count) (kind_runs kind (p + 1) new 1 n))
     ∙ sym (append_assoc xs (map dirty_run (closed_kind p run.kind run.count)) (map dirty_run (kind_runs kind (p + 1) new 1 n)))
 
-pub kinds_step : (kind : ℕ → Option Bool) (xs : List DirtyRange) (first place count : ℕ) (run : Run) → place < count →
+pub kinds_step : (kind : ℕ → Option Bool) (xs : List DirtyRange) (first place count : ℕ) (run : OpenRun) → place < count →
     xs ++ map dirty_run (kind_runs kind (first + place) run.kind run.count (count - place))
     ≡ cond (same_kind_of_page (kind (first + place)) run.kind) xs (xs ++ map dirty_run (closed_kind (first + place) run.kind run.count))
     ++ map dirty_run (kind_runs kind (first + (place + 1)) (run_after (kind (first + place)) run).kind (run_after (kind (first + place)) run).count (count - (place + 1)))
@@ -48,7 +48,7 @@ kinds_step kind xs first place count run h =
     ++ map dirty_run (kind_runs kind (first + (place + 1)) (run_after (kind (first + place)) run).kind (run_after (kind (first + place)) run).count n)) (left place count)
 
 -- the same for a list and a run that are known by equations
-pub kinds_next : (kind : ℕ → Option Bool) (xs new : List DirtyRange) (total : List DirtyRange) (first place count : ℕ) (run next : Run) (here : Option Bool) →
+pub kinds_next : (kind : ℕ → Option Bool) (xs new : List DirtyRange) (total : List DirtyRange) (first place count : ℕ) (run next : OpenRun) (here : Option Bool) →
     place < count → here ≡ kind (first + place) → next ≡ run_after here run →
     new ≡ cond (same_kind_of_page here run.kind) xs (xs ++ map dirty_run (closed_kind (first + place) run.kind run.count)) →
     xs ++ map dirty_run (kind_runs kind (first + place) run.kind run.count (count - place)) ≡ total →
@@ -60,11 +60,11 @@ longer : (kind : Option Bool) (count : ℕ) → HasPages kind (count + 1)
 longer None count = tt
 longer (Some blank) count = omega arith
 
-within_by : (same : Bool) (kind : Option Bool) (run : Run) (place : ℕ) → run.count ≤ place → (after_kind same kind run).count ≤ place + 1
+within_by : (same : Bool) (kind : Option Bool) (run : OpenRun) (place : ℕ) → run.count ≤ place → (after_kind same kind run).count ≤ place + 1
 within_by true kind run place h = omega arith
 within_by false kind run place h = omega arith
 
-some_by : (same : Bool) (kind : Option Bool) (run : Run) → HasPages (after_kind same kind run).kind (after_kind same kind run).count
+some_by : (same : Bool) (kind : Option Bool) (run : OpenRun) → HasPages (after_kind same kind run).kind (after_kind same kind run).count
 some_by true kind run = longer run.kind run.count
 some_by false kind run = longer kind 0
 
@@ -74,18 +74,18 @@ closed_few xs p None count place has h = rw append-nil (omega arith)
 closed_few xs p (Some blank) count place has h =
     rw (length-append xs (record { range = record { first = p - count; count = count }; zero = blank } ∷ [])) (omega arith)
 
-few_by : (same : Bool) (kind : Option Bool) (xs : List DirtyRange) (p place : ℕ) (run : Run) → HasPages run.kind run.count →
+few_by : (same : Bool) (kind : Option Bool) (xs : List DirtyRange) (p place : ℕ) (run : OpenRun) → HasPages run.kind run.count →
     length xs + run.count ≤ place → length (cond same xs (xs ++ map dirty_run (closed_kind p run.kind run.count))) + (after_kind same kind run).count ≤ place + 1
 few_by true kind xs p place run has h = omega arith
 few_by false kind xs p place run has h = let few : length (xs ++ map dirty_run (closed_kind p run.kind run.count)) ≤ place = closed_few xs p run.kind run.count place has h in omega arith
 
-pub run_within : (kind : Option Bool) (run next : Run) (place : ℕ) → next ≡ run_after kind run → run.count ≤ place → next.count ≤ place + 1
+pub run_within : (kind : Option Bool) (run next : OpenRun) (place : ℕ) → next ≡ run_after kind run → run.count ≤ place → next.count ≤ place + 1
 run_within kind run next place is_next h = rw is_next (within_by (same_kind_of_page kind run.kind) kind run place h)
 
-pub run_some : (kind : Option Bool) (run next : Run) → next ≡ run_after kind run → HasPages next.kind next.count
+pub run_some : (kind : Option Bool) (run next : OpenRun) → next ≡ run_after kind run → HasPages next.kind next.count
 run_some kind run next is_next = rw is_next (some_by (same_kind_of_page kind run.kind) kind run)
 
-pub run_few : (kind : Option Bool) (xs new : List DirtyRange) (p place : ℕ) (run next : Run) → next ≡ run_after kind run →
+pub run_few : (kind : Option Bool) (xs new : List DirtyRange) (p place : ℕ) (run next : OpenRun) → next ≡ run_after kind run →
     new ≡ cond (same_kind_of_page kind run.kind) xs (xs ++ map dirty_run (closed_kind p run.kind run.count)) → HasPages run.kind run.count →
     length xs + run.count ≤ place → length new + next.count ≤ place + 1
 run_few kind xs new p place run next is_next is_new has h = rw (is_new, is_next) (few_by (same_kind_of_page kind run.kind) kind xs p place run has h)

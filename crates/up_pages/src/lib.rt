@@ -1,4 +1,5 @@
 //! The pages of an object, each absent, a zero page, or held by a frame, and lists of frames.
+//! Used by itself in `up_container_tests`.
 #![tactic(auto)]
 
 mod frames;

@@ -11,7 +11,7 @@ use up_num::{DirtyRange, PageRange, RangeSeq};
 
 /// A run of pages of one kind that may go on: zero pages, held ones, or pages of neither kind.
 #[derive(Clone, Copy, Debug)]
-pub(crate) struct Run {
+pub(crate) struct OpenRun {
     pub(crate) kind: Option<bool>,
     pub(crate) count: u32,
 }
@@ -28,7 +28,7 @@ fn is_same_kind(one: Option<bool>, other: Option<bool>) -> bool
 }
 
 // Ends the run before a page.
-fn close_run(list: &mut Vec<DirtyRange>, page: u32, run: Run) -> Result<(), Memory>
+fn close_run(list: &mut Vec<DirtyRange>, page: u32, run: OpenRun) -> Result<(), Memory>
     requires within { run.count ≤ page }
     requires some { HasPages run.kind run.count }
     ensures { OnOk result (list.new.items ≡ list.old.items ++ map dirty_run (closed_kind page run.kind run.count)) }
@@ -48,8 +48,8 @@ fn next_run(
     list: &mut Vec<DirtyRange>,
     page: u32,
     kind: Option<bool>,
-    run: Run,
-) -> Result<Run, Memory>
+    run: OpenRun,
+) -> Result<OpenRun, Memory>
     requires within { run.count ≤ page }
     requires below { page < 2 ^ 32 - 1 }
     requires some { HasPages run.kind run.count }
@@ -57,13 +57,13 @@ fn next_run(
     ensures closed { OnOk result (list.new.items ≡ cond (same_kind_of_page kind run.kind) list.old.items (list.old.items ++ map dirty_run (closed_kind page run.kind run.count))) }
 {
     if is_same_kind(kind, run.kind) {
-        return Ok(Run {
+        return Ok(OpenRun {
             kind: run.kind,
             count: run.count + 1,
         });
     }
     close_run(list, page, run)?;
-    Ok(Run { kind, count: 1 })
+    Ok(OpenRun { kind, count: 1 })
 }
 
 // All runs of a range.
@@ -79,7 +79,7 @@ fn all_runs(
     ensures few { IfOk result (λ list. length list.items ≤ count) }
 {
     let mut list = Vec::new(alloc);
-    let mut run = Run {
+    let mut run = OpenRun {
         kind: None,
         count: 0,
     };

@@ -4,10 +4,10 @@ use Rattle.std.proofs.lemmas.List.{length-append, append-nil}
 use Rattle.std.proofs.lemmas.List.Elements.{filter-append}
 use Rattle.up_num.specs.declared.pages.PageNo.{PageNo}
 use Rattle.up_queues.specs.declared.queued.Queued.{Queued}
-use Rattle.up_queues.specs.declared.lists.Entry.{Entry}
+use Rattle.up_queues.specs.declared.lists.QueueEntry.{QueueEntry}
 use Rattle.up_queues.specs.Queue.{is_due}
 use Rattle.up_queues.specs.Lists.{walk}
-use Rattle.up_queues.proofs.Walking.{walk_none, walk_on}
+use Rattle.up_queues.proofs.ListWalks.{walk_none, walk_on}
 
 -- the first so many pages that are due
 abbrev pub due : ℕ → ℕ → ℕ → List Queued → List PageNo
@@ -17,27 +17,27 @@ pub due_none : (newest limit most : ℕ) (items : List Queued) → items ≡ [] 
 due_none newest limit zero items e = refl
 due_none newest limit (suc most) items e = rw e refl
 
-pub due_ended : (newest limit most left : ℕ) (g : ℕ → Option Entry) (at : Option ℕ) (old all : List PageNo) → at ≡ None → old ++ due newest limit left (walk g most at) ≡ all → old ≡ all
+pub due_ended : (newest limit most left : ℕ) (g : ℕ → Option QueueEntry) (at : Option ℕ) (old all : List PageNo) → at ≡ None → old ++ due newest limit left (walk g most at) ≡ all → old ≡ all
 due_ended newest limit most left g at old all e so =
     sym (append-nil old) ∙ (ap (λ l. old ++ l) (sym (due_none newest limit left (walk g most at) (ap (walk g most) e ∙ walk_none g most))) ∙ so)
 
-walk_lost : (g : ℕ → Option Entry) (most key : ℕ) → g key ≡ None → walk g most (Some key) ≡ []
+walk_lost : (g : ℕ → Option QueueEntry) (most key : ℕ) → g key ≡ None → walk g most (Some key) ≡ []
 walk_lost g zero key e = refl
 walk_lost g (suc most) key e = rw e (walk_none g most)
 
-pub due_lost : (newest limit most left key : ℕ) (g : ℕ → Option Entry) (at : Option ℕ) (old all : List PageNo) → at ≡ Some key → g key ≡ None
+pub due_lost : (newest limit most left key : ℕ) (g : ℕ → Option QueueEntry) (at : Option ℕ) (old all : List PageNo) → at ≡ Some key → g key ≡ None
     → old ++ due newest limit left (walk g most at) ≡ all → old ≡ all
 due_lost newest limit most left key g at old all e f so =
     sym (append-nil old) ∙ (ap (λ l. old ++ l) (sym (due_none newest limit left (walk g most at) (ap (walk g most) e ∙ walk_lost g most key f))) ∙ so)
 
-walk_step : (g : ℕ → Option Entry) (most step key : ℕ) (at : Option ℕ) (entry : Entry) → step < most → at ≡ Some key → g key ≡ Some entry
+walk_step : (g : ℕ → Option QueueEntry) (most step key : ℕ) (at : Option ℕ) (entry : QueueEntry) → step < most → at ≡ Some key → g key ≡ Some entry
     → walk g (most - step) at ≡ entry.item ∷ walk g (most - (step + 1)) entry.after
 walk_step g most step key at entry short e f =
     let more : most - step ≡ suc (most - (step + 1)) = omega arith in
     ap (λ n. walk g n at) more ∙ (ap (walk g (suc (most - (step + 1)))) e ∙ walk_on g (most - (step + 1)) key entry f)
 
 -- after an entry that isn't due, and after one that is
-pub due_skips : (newest limit max most step key : ℕ) (g : ℕ → Option Entry) (at : Option ℕ) (entry : Entry) (old all : List PageNo) → step < most → at ≡ Some key → g key ≡ Some entry
+pub due_skips : (newest limit max most step key : ℕ) (g : ℕ → Option QueueEntry) (at : Option ℕ) (entry : QueueEntry) (old all : List PageNo) → step < most → at ≡ Some key → g key ≡ Some entry
     → is_due newest limit entry.item ≡ false → old ++ due newest limit (max - length old) (walk g (most - step) at) ≡ all
     → old ++ due newest limit (max - length old) (walk g (most - (step + 1)) entry.after) ≡ all
 due_skips newest limit max most step key g at entry old all short e f not so =
@@ -46,7 +46,7 @@ due_skips newest limit max most step key g at entry old all short e f not so =
     ap (λ l. old ++ map (λ item. item.page) (take (max - length old) l)) (sym same)
     ∙ (ap (λ l. old ++ due newest limit (max - length old) l) (sym (walk_step g most step key at entry short e f)) ∙ so)
 
-pub due_adds : (newest limit max most step key : ℕ) (g : ℕ → Option Entry) (at : Option ℕ) (entry : Entry) (old new all : List PageNo) → step < most → at ≡ Some key → g key ≡ Some entry
+pub due_adds : (newest limit max most step key : ℕ) (g : ℕ → Option QueueEntry) (at : Option ℕ) (entry : QueueEntry) (old new all : List PageNo) → step < most → at ≡ Some key → g key ≡ Some entry
     → is_due newest limit entry.item ≡ true → length old < max → new ≡ old ++ entry.item.page ∷ [] → old ++ due newest limit (max - length old) (walk g (most - step) at) ≡ all
     → (length new ≤ max) × (new ++ due newest limit (max - length new) (walk g (most - (step + 1)) entry.after) ≡ all)
 due_adds newest limit max most step key g at entry old new all short e f is_so room is so =

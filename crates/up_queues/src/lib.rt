@@ -1,4 +1,5 @@
 //! The queues of an object: the pages that may be reclaimed, in the order in which they go.
+//! Used by itself in `up_container_tests`.
 #![tactic(auto)]
 
 pub mod laws;

@@ -2,7 +2,9 @@ ghost use Rattle.std.specs.Prelude.{◌≡◌, ℕ, ◌+◌, ◌<◌, ◌≤◌,
 ghost use Rattle.std.specs.Option.{option_map};
 ghost use Rattle.up_queues.specs.Queue.{find_page, InOrder, is_due, chilled};
 
-use crate::lists::{Lists, Wanted, empty_lists, push_due, put, set_item, stays_last, take};
+use crate::lists::{
+    DueTest, Lists, empty_lists, has_item, push_due, put, set_item, stays_last, take,
+};
 use crate::queued::Queued;
 use crate::seats::{Seat, key_of, seat_in, seat_out};
 use std::alloc::{AllocError, Global};
@@ -18,8 +20,7 @@ pub struct Queues {
 }
 
 impl Model for Queues {
-    ghost use Rattle.std.specs.Prelude.{◌++◌, vec_capacity};
-    ghost use Rattle.slab.specs.Slab.{get, slab_len};
+    ghost use Rattle.std.specs.Prelude.{vec_capacity};
     ghost use Rattle.up_queues.specs.Queue.{Queue};
     ghost use Rattle.up_queues.specs.Lists.{items_in};
     ghost use Rattle.up_queues.specs.Seats.{AreQueues};
@@ -71,10 +72,13 @@ impl Queues {
         Ok(())
     }
 
-    /// Puts a page in by its last use, and not cold, or moves it there. A page that is new needs a place.
-    pub fn used(&mut self, page: PageNo, generation: u64, place: u64)
+    /// Gives a page the place of its last use, and of the hint that called it cold since, where there is one. A page
+    /// that has this place is left alone; one that is new needs room.
+    pub fn seat(&mut self, page: PageNo, generation: u64, place: u64, cold: Option<u64>)
         requires { find_page self.old.items page.0 ≡ None → length self.old.items < self.old.room }
-        ensures pages { (p : ℕ) → find_page self.new.items p ≡ cond (page.0 == p) (Some record { page = page; generation = generation; place = place; cold = None }) (find_page self.old.items p) }
+        ensures pages { (p : ℕ) → find_page self.new.items p
+            ≡ cond (page.0 == p) (Some record { page = page; generation = generation; place = place; cold = cold })
+            (find_page self.old.items p) }
         ensures ordered { InOrder self.new.items }
         ensures room { self.new.room ≡ self.old.room }
     {
@@ -82,9 +86,12 @@ impl Queues {
             page,
             generation,
             place,
-            cold: None,
+            cold,
         };
         if let Some(key) = key_of(&self.seats, page.0) {
+            if has_item(&self.lists.entries, key, &item) {
+                return;
+            }
             if stays_last(&self.lists, key, &item) {
                 set_item(&mut self.lists.entries, key, item);
                 return;
@@ -95,6 +102,18 @@ impl Queues {
         }
         let key = put(&mut self.lists, item);
         seat_in(&mut self.seats, page.0, key);
+    }
+
+    /// Puts a page in by its last use, and not cold, or moves it there. A page that is new needs room.
+    pub fn used(&mut self, page: PageNo, generation: u64, place: u64)
+        requires { find_page self.old.items page.0 ≡ None → length self.old.items < self.old.room }
+        ensures pages { (p : ℕ) → find_page self.new.items p
+            ≡ cond (page.0 == p) (Some record { page = page; generation = generation; place = place; cold = None })
+            (find_page self.old.items p) }
+        ensures ordered { InOrder self.new.items }
+        ensures room { self.new.room ≡ self.old.room }
+    {
+        self.seat(page, generation, place, None);
     }
 
     /// Moves a page behind those that were called cold before, and before all that weren't.
@@ -135,7 +154,7 @@ impl Queues {
     ) -> Result<PageSeq, Memory>
         ensures { IfOk result (λ pages. pages ≡ map (λ item. item.page) (take max (filter (is_due newest limit) self.now.items))) }
     {
-        let wanted = Wanted {
+        let wanted = DueTest {
             newest,
             limit,
             max: max as usize,

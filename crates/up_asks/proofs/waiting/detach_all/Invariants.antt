@@ -2,12 +2,12 @@ use Rattle.std.proofs.Common.{◌≡◌, drop}
 use Rattle.std.specs.Prelude.{vec_len}
 use Rattle.std.specs.Vec.{vec_capacity}
 use Rattle.up_asks.specs.Asking.{all_detached}
-use Rattle.up_asks.specs.Keeps.{settled}
+use Rattle.up_asks.specs.Keeps.{tickets_after}
 use Rattle.up_asks.proofs.waiting.detach_all.Given as goal
 
 abbrev pub invariant-loop-place : goal.invariant-loop-place
 invariant-loop-place l = record {
-  list : settled all_detached l.tickets.items (drop l.place l.waiting.items) ≡ settled all_detached l.fn.tickets.items l.fn.waiting.items;
+  list : tickets_after all_detached l.tickets.items (drop l.place l.waiting.items) ≡ tickets_after all_detached l.fn.tickets.items l.fn.waiting.items;
   len : vec_len l.tickets ≡ vec_len l.fn.tickets;
   same : l.waiting.items ≡ l.fn.waiting.items;
   waiting_len : vec_len l.waiting ≡ vec_len l.fn.waiting;

@@ -1,4 +1,4 @@
-use Rattle.up_pages.proofs.Counting.{of_one_kind}
+use Rattle.up_pages.proofs.HeldCounts.{of_one_kind}
 use Rattle.up_pages.proofs.laws.frames_are_counted.Goals as goal
 
 pub returns-clause-each : goal.returns-clause-each

@@ -1,4 +1,4 @@
-use Rattle.up_pages.proofs.Banked.{stood, comes_back, as_many}
+use Rattle.up_pages.proofs.FramesOfPages.{stood, comes_back, as_many}
 use Rattle.up_pages.proofs.laws.frames_come_back_once.Goals as goal
 
 pub returns-clause-stood : goal.returns-clause-stood

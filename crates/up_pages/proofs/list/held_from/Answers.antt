@@ -1,5 +1,5 @@
 use Rattle.std.proofs.Common.{◌≡◌, ◌<◌, ◌≤◌, ◌+◌, length, rules, arith}
-use Rattle.up_pages.proofs.Counting.{held_next}
+use Rattle.up_pages.proofs.HeldCounts.{held_next}
 use Rattle.up_pages.proofs.list.held_from.Goals as goal
 
 pub overflow_add-held : goal.overflow_add-held

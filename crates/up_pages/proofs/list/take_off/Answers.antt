@@ -1,6 +1,6 @@
 use Rattle.std.proofs.Common.{◌≡◌, ◌<◌, ◌-◌, suc, Some, length, get_or, vec_len, rules, arith}
 use Rattle.up_pages.specs.declared.page.Page.TheVariants.{Absent}
-use Rattle.up_pages.proofs.Taking.{taken, room_for}
+use Rattle.up_pages.proofs.PagesTaken.{taken, room_for}
 use Rattle.up_pages.proofs.list.take_off.Goals as goal
 
 pub put_some-requires : goal.put_some-requires

@@ -1,5 +1,5 @@
 use Rattle.std.proofs.Common.{vec_len}
-use Rattle.up_pages.proofs.Taking.{Taking}
+use Rattle.up_pages.proofs.PagesTaken.{Taking}
 use Rattle.up_pages.proofs.list.take_off.Given as goal
 
 abbrev pub invariant-loop-pages : goal.invariant-loop-pages

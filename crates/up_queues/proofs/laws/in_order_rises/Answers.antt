@@ -1,4 +1,4 @@
-use Rattle.up_queues.proofs.Queueing.{rises}
+use Rattle.up_queues.proofs.OrderedItems.{rises}
 use Rattle.up_queues.proofs.laws.in_order_rises.Goals as goal
 
 pub returns : goal.returns

@@ -1,4 +1,4 @@
-use Rattle.up_queues.proofs.Queueing.{no_other}
+use Rattle.up_queues.proofs.OrderedItems.{no_other}
 use Rattle.up_queues.proofs.laws.no_page_twice.Goals as goal
 
 pub returns : goal.returns

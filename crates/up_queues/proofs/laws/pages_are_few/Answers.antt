@@ -1,4 +1,4 @@
-use Rattle.up_queues.proofs.Few.{few_pages}
+use Rattle.up_queues.proofs.FewItems.{few_pages}
 use Rattle.up_queues.proofs.laws.pages_are_few.Goals as goal
 
 pub returns : goal.returns

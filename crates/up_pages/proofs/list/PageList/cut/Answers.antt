@@ -1,7 +1,7 @@
 use Rattle.std.proofs.Common.{◌≡◌, ◌≤◌, ◌-◌, ◌++◌, ℕ, None, length, get_or, sym, subst, ap, ◌∙◌, rules}
 use Rattle.up_pages.specs.Pages.{page_at, frame_of, frames_down}
 use Rattle.up_pages.specs.declared.page.Page.TheVariants.{Absent}
-use Rattle.up_pages.proofs.Counting.{down_none, cut_kinds}
+use Rattle.up_pages.proofs.HeldCounts.{down_none, cut_kinds}
 use Rattle.up_pages.proofs.list.PageList.cut.Goals as goal
 
 pub returns-in_err-frames-clause-none : goal.returns-in_err-frames-clause-none

@@ -1,7 +1,7 @@
 use Rattle.std.proofs.Common.{◌≡◌, ◌≤◌, ◌-◌, ◌++◌, length, get_or, ap, ◌∙◌, arith}
 use Rattle.up_pages.specs.Pages.{frames_down}
 use Rattle.up_pages.specs.declared.page.Page.TheVariants.{Absent}
-use Rattle.up_pages.proofs.Counting.{down_few, all_kinds}
+use Rattle.up_pages.proofs.HeldCounts.{down_few, all_kinds}
 use Rattle.up_pages.proofs.list.PageList.end.Goals as goal
 
 pub take_off-requires-clause-room : goal.take_off-requires-clause-room

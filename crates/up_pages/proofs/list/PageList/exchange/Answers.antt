@@ -2,7 +2,7 @@ use Rattle.std.proofs.Common.{rules, ◌≡◌, ◌<◌, length, get_or, set, ap
 use Rattle.std.proofs.lemmas.List.{get_or_default}
 use Rattle.up_pages.specs.Pages.{frame_of}
 use Rattle.up_pages.specs.declared.page.Page.TheVariants.{Absent}
-use Rattle.up_pages.proofs.Counting.{kinds_set}
+use Rattle.up_pages.proofs.HeldCounts.{kinds_set}
 use Rattle.up_pages.proofs.list.PageList.exchange.Goals as goal
 
 pub returns-clause-kinds : goal.returns-clause-kinds

@@ -1,6 +1,6 @@
 use Rattle.std.proofs.Common.{◌≤◌, length, get_or, ap, ◌∙◌, arith}
 use Rattle.up_pages.specs.declared.page.Page.TheVariants.{Absent}
-use Rattle.up_pages.proofs.Counting.{grown_kinds}
+use Rattle.up_pages.proofs.HeldCounts.{grown_kinds}
 use Rattle.up_pages.proofs.list.PageList.grow.Goals as goal
 
 pub returns-clause-kinds : goal.returns-clause-kinds

@@ -4,7 +4,7 @@ use Rattle.std.specs.Option.{option_map}
 use Rattle.up_queues.specs.declared.queued.Queued.{Queued}
 use Rattle.up_queues.specs.Queue.{Queue, find_page, InOrder, chilled}
 use Rattle.up_queues.specs.Lists.{items_in}
-use Rattle.up_queues.proofs.Doing.{Done, Found, in_order, found_at, contains, shows, shows_none, unchanged, moved, chilled_now}
+use Rattle.up_queues.proofs.QueuesAfterCalls.{QueuesAre, Found, in_order, found_at, contains, shows, shows_none, unchanged, moved, chilled_now}
 use Rattle.up_queues.proofs.queues.Queues.cold.Goals as goal
 use Rattle.up_queues.proofs.queues.Queues.cold.Goals.{After-put}
 
@@ -28,7 +28,7 @@ found c = found_at c.self.inside.lists c.self.inside.seats.items (vec_capacity c
 same_item : (c : After-put) → (found c).node.item ≡ c.take-item.result
 same_item c = let both : ◌≡◌ {A = Option Queued} (Some (found c).node.item) (Some c.take-item.result) = sym (found c).item ∙ c.take-item.ensures.item in cc
 
-holds : (c : After-put) → Done c.put.new.lists c.self.inside.seats.items (vec_capacity c.self.inside.seats) c.self.inside.room
+holds : (c : After-put) → QueuesAre c.put.new.lists c.self.inside.seats.items (vec_capacity c.self.inside.seats) c.self.inside.room
     (λ p. cond (c.args.page.0 == p) (Some (chilled c.args.place c.take-item.result)) (find_page (items_in c.self.inside.lists) p))
 holds c =
     let f : Found c.self.inside.lists c.self.invariant.are c.args.page.0 c.in-Some.key = found c in

@@ -2,7 +2,7 @@ use Rattle.std.proofs.Common.{◌≡◌, ℕ, ◌==◌, None, cond, sym, ◌∙�
 use Rattle.std.specs.Prelude.{vec_capacity}
 use Rattle.up_queues.specs.Queue.{Queue, find_page, InOrder}
 use Rattle.up_queues.specs.Lists.{items_in}
-use Rattle.up_queues.proofs.Doing.{Done, Found, in_order, found_at, contains, shows_none, still_none, dropped}
+use Rattle.up_queues.proofs.QueuesAfterCalls.{QueuesAre, Found, in_order, found_at, contains, shows_none, still_none, dropped}
 use Rattle.up_queues.proofs.queues.Queues.drop_page.Goals as goal
 use Rattle.up_queues.proofs.queues.Queues.drop_page.Goals.{After-seat_out}
 
@@ -20,7 +20,7 @@ take-requires c =
     contains c.self.inside.lists c.self.invariant.are c.args.page.0 c.in-Some.key
     (found_at c.self.inside.lists c.self.inside.seats.items (vec_capacity c.self.inside.seats) c.self.inside.room c.self.invariant c.args.page.0 c.in-Some.key (sym c.in-Some.is ∙ c.key_of.ensures))
 
-holds : (c : After-seat_out) → Done c.take.new.lists c.seat_out.new.seats.items (vec_capacity c.seat_out.new.seats) c.self.inside.room
+holds : (c : After-seat_out) → QueuesAre c.take.new.lists c.seat_out.new.seats.items (vec_capacity c.seat_out.new.seats) c.self.inside.room
     (λ p. cond (c.args.page.0 == p) None (find_page (items_in c.self.inside.lists) p))
 holds c =
     let f : Found c.self.inside.lists c.self.invariant.are c.args.page.0 c.in-Some.key =

@@ -1,6 +1,6 @@
 use Rattle.std.proofs.Common.{◌≡◌, length, sym, ◌∙◌, subst, arith}
 use Rattle.up_queues.specs.Queue.{Queue, InOrder}
-use Rattle.up_queues.proofs.Doing.{many_items, in_order}
+use Rattle.up_queues.proofs.QueuesAfterCalls.{many_items, in_order}
 use Rattle.up_queues.proofs.queues.Queues.len.Goals as goal
 
 pub returns-clause-value : goal.returns-clause-value

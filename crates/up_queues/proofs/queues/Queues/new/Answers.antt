@@ -1,5 +1,5 @@
 use Rattle.std.specs.Prelude.{vec_capacity}
-use Rattle.up_queues.proofs.Doing.{empty}
+use Rattle.up_queues.proofs.QueuesAfterCalls.{empty}
 use Rattle.up_queues.proofs.queues.Queues.new.Goals as goal
 
 pub invariant_of-result : goal.invariant_of-result

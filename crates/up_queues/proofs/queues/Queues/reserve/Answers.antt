@@ -4,7 +4,7 @@ use Rattle.slab.specs.Slab.{slab_len}
 use Rattle.up_queues.specs.Queue.{Queue}
 use Rattle.up_queues.specs.Lists.{items_in}
 use Rattle.up_queues.specs.Seats.{AreQueues}
-use Rattle.up_queues.proofs.Doing.{many_items, roomier, same_items, on_err}
+use Rattle.up_queues.proofs.QueuesAfterCalls.{many_items, roomier, same_items, on_err}
 use Rattle.up_queues.proofs.queues.Queues.reserve.Goals as goal
 
 pub returns-then-room-self-clause-enough : goal.returns-then-room-self-clause-enough

@@ -4,7 +4,7 @@ use Rattle.std.proofs.lemmas.Bool.Decides.{nat_tests}
 use Rattle.std.proofs.lemmas.List.{length-append}
 use Rattle.up_queues.specs.declared.queued.Queued.{Queued}
 use Rattle.up_queues.specs.Queue.{find_page, InOrder}
-use Rattle.up_queues.proofs.Queueing.{taken_between, no_other, find_taken}
+use Rattle.up_queues.proofs.OrderedItems.{taken_between, no_other, find_taken}
 
 -- the item of a page, and those on both sides of it
 pub record Split (items : List Queued) (q : ℕ) (x : Queued) : Type 0 where

@@ -5,15 +5,15 @@ use Rattle.std.specs.Option.{option_map}
 use Rattle.std.proofs.lemmas.Bool.Decides.{nat_tests}
 use Rattle.slab.specs.Slab.{Slab, get, slab_len, ContainsKey}
 use Rattle.up_queues.specs.declared.queued.Queued.{Queued}
-use Rattle.up_queues.specs.declared.lists.Entry.{Entry}
+use Rattle.up_queues.specs.declared.lists.QueueEntry.{QueueEntry}
 use Rattle.up_queues.specs.declared.lists.Lists.{Lists}
 use Rattle.up_queues.specs.declared.seats.Seat.{Seat}
 use Rattle.up_queues.specs.Queue.{find_page, InOrder}
 use Rattle.up_queues.specs.Lists.{Node, items_of, find_node, items_in, AreLists, nodes_in, Put, Taken}
 use Rattle.up_queues.specs.Seats.{Rising, seat_key, AreQueues}
-use Rattle.up_queues.proofs.Finding.{find_items, node_found, node_page}
-use Rattle.up_queues.proofs.Walking.{items_are}
-use Rattle.up_queues.proofs.Both.{all_holding}
+use Rattle.up_queues.proofs.NodesByPage.{find_items, node_found, node_page}
+use Rattle.up_queues.proofs.ListWalks.{items_are}
+use Rattle.up_queues.proofs.BothLists.{all_holding}
 
 -- what the queues show
 
@@ -38,7 +38,7 @@ pub record Found (lists : Lists) (are : AreLists lists) (p key : ℕ) : Type 0 w
   pub own : node.key ≡ key
   pub page : node.item.page.0 ≡ p
   pub itself : find_node (nodes_in are) node.item.page.0 ≡ Some node
-  pub item : option_map (λ (e : Entry). e.item) (get lists.entries key) ≡ Some node.item
+  pub item : option_map (λ (e : QueueEntry). e.item) (get lists.entries key) ≡ Some node.item
 
 pub found_at : (lists : Lists) (seats : List Seat) (capacity room : ℕ) (q : AreQueues lists seats capacity room) (p key : ℕ) → Some key ≡ seat_key seats p → Found lists q.are p key
 found_at lists seats capacity room q p key s =
@@ -46,19 +46,19 @@ found_at lists seats capacity room q p key s =
       | None ↦ λ e k. absurd (let wrong : ◌≡◌ {A = Option ℕ} (Some key) None = k in cc)
       | Some node ↦ λ e k.
           let own : node.key ≡ key = (let both : ◌≡◌ {A = Option ℕ} (Some key) (Some node.key) = k in cc) in
-          let held : option_map (λ (x : Entry). x.item) (get lists.entries node.key) ≡ Some node.item =
-          node_found (λ n. option_map (λ (x : Entry). x.item) (get lists.entries n.key) ≡ Some n.item) (nodes_in q.are) p node (all_holding lists q.are) e in
+          let held : option_map (λ (x : QueueEntry). x.item) (get lists.entries node.key) ≡ Some node.item =
+          node_found (λ n. option_map (λ (x : QueueEntry). x.item) (get lists.entries n.key) ≡ Some n.item) (nodes_in q.are) p node (all_holding lists q.are) e in
           record {
             node = node;
             found = e;
             own = own;
             page = node_page (nodes_in q.are) p node e;
             itself = subst (λ n. find_node (nodes_in q.are) n ≡ Some node) (sym (node_page (nodes_in q.are) p node e)) e;
-            item = subst (λ k. option_map (λ (x : Entry). x.item) (get lists.entries k) ≡ Some node.item) own held;
+            item = subst (λ k. option_map (λ (x : QueueEntry). x.item) (get lists.entries k) ≡ Some node.item) own held;
           }
     ] refl (s ∙ q.seated p)
 
-is_there : (r : Option Entry) (item : Queued) → option_map (λ (x : Entry). x.item) r ≡ Some item → IsSome r
+is_there : (r : Option QueueEntry) (item : Queued) → option_map (λ (x : QueueEntry). x.item) r ≡ Some item → IsSome r
 is_there None item e = absurd (let wrong : ◌≡◌ {A = Option Queued} None (Some item) = e in cc)
 is_there (Some x) item e = refl
 
@@ -94,7 +94,7 @@ still_none page old none p =
     ] refl
 
 -- the queues that stand, and what they show
-pub record Done (lists : Lists) (seats : List Seat) (capacity room : ℕ) (now : ℕ → Option Queued) : Type 0 where
+pub record QueuesAre (lists : Lists) (seats : List Seat) (capacity room : ℕ) (now : ℕ → Option Queued) : Type 0 where
   pub queues : AreQueues lists seats capacity room
   pub pages : (p : ℕ) → find_page (items_in lists) p ≡ now p
   pub ordered : InOrder (items_in lists)
@@ -117,7 +117,7 @@ pub moved : (old mid new : Lists) (seats : List Seat) (capacity room : ℕ) (q :
     → Taken q.are mid f.node → ((are : AreLists mid) → find_node (nodes_in are) item.page.0 ≡ None → Put are new (record { key = next; item = item }))
     → item.page.0 ≡ page → next ≡ key → slab_len mid.entries + 1 ≡ slab_len old.entries → slab_len new.entries ≡ slab_len mid.entries + 1
     → mid.entries.capacity ≡ old.entries.capacity → new.entries.capacity ≡ mid.entries.capacity
-    → Done new seats capacity room (λ p. cond (page == p) (Some item) (find_page (items_in old) p))
+    → QueuesAre new seats capacity room (λ p. cond (page == p) (Some item) (find_page (items_in old) p))
 moved old mid new seats capacity room q page key next item f t put own same less more cap cap' =
     let out : (p : ℕ) → find_node (nodes_in t.now) p ≡ cond (page == p) None (find_node (nodes_in q.are) p) =
     λ p. t.pages p ∙ over_page f.node.item.page.0 page p None (find_node (nodes_in q.are) p) f.page in
@@ -154,7 +154,7 @@ pub added : (old new : Lists) (seats more : List Seat) (capacity wide room : ℕ
     → None ≡ seat_key seats page → ((are : AreLists old) → find_node (nodes_in are) item.page.0 ≡ None → Put are new (record { key = key; item = item })) → item.page.0 ≡ page
     → ((p : ℕ) → seat_key more p ≡ cond (page == p) (Some key) (seat_key seats p)) → Rising more → length more ≡ length seats + 1 → wide ≡ capacity
     → slab_len new.entries ≡ slab_len old.entries + 1 → new.entries.capacity ≡ old.entries.capacity
-    → Done new more wide room (λ p. cond (page == p) (Some item) (find_page (items_in old) p))
+    → QueuesAre new more wide room (λ p. cond (page == p) (Some item) (find_page (items_in old) p))
 added old new seats more capacity wide room q page key item absent put own keys rising longer cap len cap' =
     let w : Put q.are new (record { key = key; item = item }) = put q.are (subst (λ n. find_node (nodes_in q.are) n ≡ None) (sym own) (unseated old seats capacity room q page absent)) in
     let into : (p : ℕ) → find_node (nodes_in w.now) p ≡ cond (page == p) (Some (record { key = key; item = item })) (find_node (nodes_in q.are) p) =
@@ -186,7 +186,7 @@ item_dropped false old new out = ap (option_map (λ (x : Node). x.item)) out
 pub dropped : (old new : Lists) (seats fewer : List Seat) (capacity wide room : ℕ) (q : AreQueues old seats capacity room) (page key : ℕ) (f : Found old q.are page key) → Taken q.are new f.node
     → ((p : ℕ) → seat_key fewer p ≡ cond (page == p) None (seat_key seats p)) → Rising fewer → length fewer + 1 ≡ length seats → wide ≡ capacity
     → slab_len new.entries + 1 ≡ slab_len old.entries → new.entries.capacity ≡ old.entries.capacity
-    → Done new fewer wide room (λ p. cond (page == p) None (find_page (items_in old) p))
+    → QueuesAre new fewer wide room (λ p. cond (page == p) None (find_page (items_in old) p))
 dropped old new seats fewer capacity wide room q page key f t keys rising shorter cap len cap' =
     let out : (p : ℕ) → find_node (nodes_in t.now) p ≡ cond (page == p) None (find_node (nodes_in q.are) p) =
     λ p. t.pages p ∙ over_page f.node.item.page.0 page p None (find_node (nodes_in q.are) p) f.page in
@@ -210,6 +210,18 @@ pub chilled_now : (f : Queued → Queued) (page : ℕ) (item : Queued) (old : �
 chilled_now f page item old here p =
     elim (page == p) as (λ b. (page == p) ≡ b → cond b (Some (f item)) (old p) ≡ cond b (option_map f (old p)) (old p)) [
       | true ↦ λ e. let same : page ≡ p = grind (arith, nat_tests) in sym (ap (option_map f) (subst (λ q. old q ≡ Some item) same here))
+      | false ↦ λ e. refl
+    ] refl
+
+-- a page whose item stays the same is left alone
+pub left_alone : (lists : Lists) (seats : List Seat) (capacity room : ℕ) (q : AreQueues lists seats capacity room) (page key : ℕ) (item : Queued)
+    → Some key ≡ seat_key seats page → option_map (λ (e : QueueEntry). e.item) (get lists.entries key) ≡ Some item
+    → (p : ℕ) → find_page (items_in lists) p ≡ cond (page == p) (Some item) (find_page (items_in lists) p)
+left_alone lists seats capacity room q page key item s held p =
+    let f : Found lists q.are page key = found_at lists seats capacity room q page key s in
+    let here : find_page (items_in lists) page ≡ Some item = shows lists q.are page key f ∙ (sym f.item ∙ held) in
+    elim (page == p) as (λ b. (page == p) ≡ b → find_page (items_in lists) p ≡ cond b (Some item) (find_page (items_in lists) p)) [
+      | true ↦ λ e. let same : page ≡ p = grind (arith, nat_tests) in subst (λ q. find_page (items_in lists) q ≡ Some item) same here
       | false ↦ λ e. refl
     ] refl
 
@@ -247,11 +259,11 @@ has_room lists seats capacity room q p s asked =
     (omega (arith, less, many, held), omega (arith, less, many, as_many, held'))
 
 -- more room, and nothing else
-pub roomier : (lists : Lists) (seats : List Seat) (capacity room : ℕ) → AreQueues lists seats capacity room → (entries : Slab Entry) → entries ≡ record lists.entries { capacity = entries.capacity }
+pub roomier : (lists : Lists) (seats : List Seat) (capacity room : ℕ) → AreQueues lists seats capacity room → (entries : Slab QueueEntry) → entries ≡ record lists.entries { capacity = entries.capacity }
     → (wide wider : ℕ) → wider ≤ entries.capacity → wider ≤ wide → AreQueues (record { entries = entries; cold = lists.cold; others = lists.others }) seats wide wider
 roomier lists seats capacity room q entries is wide wider fits fits' =
     let more : ℕ = entries.capacity in
-    subst (λ (e : Slab Entry). AreQueues (record { entries = e; cold = lists.cold; others = lists.others }) seats wide wider) (sym is) (record {
+    subst (λ (e : Slab QueueEntry). AreQueues (record { entries = e; cold = lists.cold; others = lists.others }) seats wide wider) (sym is) (record {
       are = record {
         colds = q.are.colds;
         others = q.are.others;
@@ -269,9 +281,9 @@ roomier lists seats capacity room q entries is wide wider fits fits' =
       seat_room = fits';
     })
 
-pub same_items : (lists : Lists) (entries : Slab Entry) → entries ≡ record lists.entries { capacity = entries.capacity }
+pub same_items : (lists : Lists) (entries : Slab QueueEntry) → entries ≡ record lists.entries { capacity = entries.capacity }
     → items_in (record { entries = entries; cold = lists.cold; others = lists.others }) ≡ items_in lists
-same_items lists entries is = ap (λ (e : Slab Entry). items_in (record { entries = e; cold = lists.cold; others = lists.others })) is
+same_items lists entries is = ap (λ (e : Slab QueueEntry). items_in (record { entries = e; cold = lists.cold; others = lists.others })) is
 
 pub on_err : {T E : Type 0} (P : Type 0) (r : Result T E) → P → OnErr r P
 on_err P (Ok x) p = tt
@@ -283,7 +295,7 @@ pub moved_at : (old mid new : Lists) (seats : List Seat) (capacity room : ℕ) (
     → ((are : AreLists mid) → find_node (nodes_in are) item.page.0 ≡ None → Put are new (record { key = next; item = item }))
     → item.page.0 ≡ page → next ≡ key → slab_len mid.entries + 1 ≡ slab_len old.entries → slab_len new.entries ≡ slab_len mid.entries + 1
     → mid.entries.capacity ≡ old.entries.capacity → new.entries.capacity ≡ mid.entries.capacity
-    → Done new seats capacity room (λ p. cond (page == p) (Some item) (find_page (items_in old) p))
+    → QueuesAre new seats capacity room (λ p. cond (page == p) (Some item) (find_page (items_in old) p))
 moved_at old mid new seats capacity room q page key next item s out put own same less more cap cap' =
     let f : Found old q.are page key = found_at old seats capacity room q page key s in
     moved old mid new seats capacity room q page key next item f (out q.are f.node f.itself f.own) put own same less more cap cap'
@@ -297,7 +309,7 @@ key_renewed false old new n m here into same = sym (ap (option_map (λ (x : Node
 pub renewed_at : (old new : Lists) (seats : List Seat) (capacity room : ℕ) (q : AreQueues old seats capacity room) (page key : ℕ) (item : Queued) → Some key ≡ seat_key seats page
     → ((are : AreLists old) (node : Node) → find_node (nodes_in are) item.page.0 ≡ Some node → node.key ≡ key → Put are new (record { key = key; item = item }))
     → item.page.0 ≡ page → slab_len new.entries ≡ slab_len old.entries → new.entries.capacity ≡ old.entries.capacity
-    → Done new seats capacity room (λ p. cond (page == p) (Some item) (find_page (items_in old) p))
+    → QueuesAre new seats capacity room (λ p. cond (page == p) (Some item) (find_page (items_in old) p))
 renewed_at old new seats capacity room q page key item s put own len cap =
     let f : Found old q.are page key = found_at old seats capacity room q page key s in
     let w : Put q.are new (record { key = key; item = item }) = put q.are f.node (subst (λ n. find_node (nodes_in q.are) n ≡ Some f.node) (sym own) f.found) f.own in

@@ -1,7 +1,7 @@
 use Rattle.std.proofs.Common.{◌≡◌, ◌-◌}
 use Rattle.up_pages.specs.Pages.{page_at, size_of}
-use Rattle.up_pages.proofs.Banked.{each_down}
-use Rattle.up_container_tests.proofs.paging.Desk.cut.Goals as goal
+use Rattle.up_pages.proofs.FramesOfPages.{each_down}
+use Rattle.up_container_tests.proofs.paging.TestedPages.cut.Goals as goal
 
 pub give_all-requires-clause-frames : goal.give_all-requires-clause-frames
 give_all-requires-clause-frames c = rw c.in-Ok.ensures.back

@@ -7,7 +7,7 @@ use Rattle.std.proofs.lemmas.List.{length-append, map-append}
 use Rattle.up_queues.specs.declared.queued.Queued.{Queued}
 use Rattle.up_queues.specs.Queue.{find_page, goes_first, colder, precedes, Each, InOrder}
 use Rattle.up_queues.specs.Lists.{Node, items_of, EachNode, find_node}
-use Rattle.up_queues.proofs.Queueing.{put_between, taken_between, no_other}
+use Rattle.up_queues.proofs.OrderedItems.{put_between, taken_between, no_other}
 
 pub find_items : (ns : List Node) (p : ℕ) → find_page (items_of ns) p ≡ option_map (λ (n : Node). n.item) (find_node ns p)
 find_items [] p = refl

@@ -5,16 +5,16 @@ use Rattle.std.specs.Option.{option_map}
 use Rattle.std.proofs.lemmas.Bool.Decides.{nat_tests}
 use Rattle.slab.specs.Slab.{Slab, get, slab_len}
 use Rattle.up_queues.specs.declared.queued.Queued.{Queued}
-use Rattle.up_queues.specs.declared.lists.Entry.{Entry}
+use Rattle.up_queues.specs.declared.lists.QueueEntry.{QueueEntry}
 use Rattle.up_queues.specs.declared.lists.Lists.{Lists}
 use Rattle.up_queues.specs.Queue.{goes_first, precedes, Each, InOrder}
 use Rattle.up_queues.specs.Lists.{Node, items_of, EachNode, find_node, first_key, last_key, Linked, ListOf, AreLists, nodes_in, Put, with_item}
 use Rattle.up_queues.proofs.Orders.{first_later}
-use Rattle.up_queues.proofs.Queueing.{other_page, first_of}
-use Rattle.up_queues.proofs.Linking.{all_front, all_back, all_join, all_one, on_items, Apart, Distinct, distinct_back, distinct_apart, apart_flip, turned, made, linked_cut, linked_join, linked_kept, list_kept, first_append, last_append}
-use Rattle.up_queues.proofs.Finding.{node_page, node_found, NodesPut, NodesTaken, nodes_put, nodes_taken}
-use Rattle.up_queues.proofs.Walking.{Ended, ended, precede_node}
-use Rattle.up_queues.proofs.Both.{all_distinct, all_holding, entry_item}
+use Rattle.up_queues.proofs.OrderedItems.{other_page, first_of}
+use Rattle.up_queues.proofs.LinkedLists.{all_front, all_back, all_join, all_one, on_items, Apart, Distinct, distinct_back, distinct_apart, apart_flip, turned, made, linked_cut, linked_join, linked_kept, list_kept, first_append, last_append}
+use Rattle.up_queues.proofs.NodesByPage.{node_page, node_found, NodesPut, NodesTaken, nodes_put, nodes_taken}
+use Rattle.up_queues.proofs.ListWalks.{Ended, ended, precede_node}
+use Rattle.up_queues.proofs.BothLists.{all_distinct, all_holding, entry_item}
 
 renewed_page : (t : Bool) (old mid new : Option Node) (n : Node) → mid ≡ cond t None old → new ≡ cond t (Some n) mid → new ≡ cond t (Some n) old
 renewed_page true old mid new n out into = into
@@ -28,7 +28,7 @@ precedes_later x y z n m up own p =
     rw (first, other) refl
 
 -- the last of the others, as its entry has it
-record Last (old : Lists) (are : AreLists old) (key : ℕ) (entry : Entry) : Type 0 where
+record Last (old : Lists) (are : AreLists old) (key : ℕ) (entry : QueueEntry) : Type 0 where
   front : List Node
   node : Node
   is : are.others ≡ front ++ node ∷ []
@@ -37,7 +37,7 @@ record Last (old : Lists) (are : AreLists old) (key : ℕ) (entry : Entry) : Typ
   held : get old.entries key ≡ made node.item (last_key None front) None
   linked : Linked (get old.entries) None front (Some key)
 
-last_node : (old : Lists) (are : AreLists old) (key : ℕ) (entry : Entry) → old.others.last ≡ Some key → get old.entries key ≡ Some entry → Last old are key entry
+last_node : (old : Lists) (are : AreLists old) (key : ℕ) (entry : QueueEntry) → old.others.last ≡ Some key → get old.entries key ≡ Some entry → Last old are key entry
 last_node old are key entry last here =
     let d : Ended are.others key = ended are.others key (sym are.other_list.last ∙ last) in
     let cut = linked_cut (get old.entries) None d.front (d.node ∷ []) None (subst (λ ns. Linked (get old.entries) None ns None) d.is are.other_list.linked) in
@@ -49,12 +49,12 @@ last_node old are key entry last here =
       node = d.node;
       is = d.is;
       own = d.own;
-      item_is = ap (λ (e : Entry). e.item) same;
+      item_is = ap (λ (e : QueueEntry). e.item) same;
       held = held;
       linked = subst (λ k. Linked (get old.entries) None d.front (Some k)) d.own cut.0;
     }
 
-renewed_list : (old : Lists) (are : AreLists old) (entries : Slab Entry) (key : ℕ) (entry : Entry) (item : Queued) (w : Last old are key entry) → old.others.last ≡ Some key
+renewed_list : (old : Lists) (are : AreLists old) (entries : Slab QueueEntry) (key : ℕ) (entry : QueueEntry) (item : Queued) (w : Last old are key entry) → old.others.last ≡ Some key
     → ((k : ℕ) → get entries k ≡ cond (key == k) (option_map (with_item item) (get old.entries k)) (get old.entries k)) → EachNode (λ n. get entries n.key ≡ get old.entries n.key) w.front
     → ListOf (get entries) old.others (w.front ++ record { key = key; item = item } ∷ [])
 renewed_list old are entries key entry item w last edit kept =
@@ -68,7 +68,7 @@ renewed_list old are entries key entry item w last edit kept =
       last = last ∙ sym (last_append None w.front (n ∷ []));
     }
 
-pub last_renewed : (old : Lists) (are : AreLists old) (entries : Slab Entry) (key : ℕ) (entry : Entry) (item : Queued) (node : Node) → old.others.last ≡ Some key → get old.entries key ≡ Some entry
+pub last_renewed : (old : Lists) (are : AreLists old) (entries : Slab QueueEntry) (key : ℕ) (entry : QueueEntry) (item : Queued) (node : Node) → old.others.last ≡ Some key → get old.entries key ≡ Some entry
     → entry.item.place ≤ item.place → is_some item.cold ≡ false → find_node (nodes_in are) item.page.0 ≡ Some node → node.key ≡ key
     → ((k : ℕ) → get entries k ≡ cond (key == k) (option_map (with_item item) (get old.entries k)) (get old.entries k)) → slab_len entries ≡ slab_len old.entries
     → Put are (record { entries = entries; cold = old.cold; others = old.others }) (record { key = key; item = item })
@@ -116,18 +116,18 @@ last_renewed old are entries key entry item node last here up warm found its edi
       pages = λ p. renewed_page (item.page.0 == p) (find_node (nodes_in are) p) (find_node ((are.colds ++ w.front) ++ []) p) (find_node (are.colds ++ (w.front ++ n ∷ [])) p) n (out_pages p) (nodes.pages p);
     }
 
-entry_of : (r : Option Entry) (item : Queued) → option_map (λ (e : Entry). e.item) r ≡ Some item → (e : Entry) × (r ≡ Some e)
+entry_of : (r : Option QueueEntry) (item : Queued) → option_map (λ (e : QueueEntry). e.item) r ≡ Some item → (e : QueueEntry) × (r ≡ Some e)
 entry_of None item e = absurd (let wrong : ◌≡◌ {A = Option Queued} None (Some item) = e in cc)
 entry_of (Some x) item e = (x, refl)
 
 -- the same, as the clauses of the code say it
-pub renewed_put : (old : Lists) (entries : Slab Entry) (key : ℕ) (item : Queued) → old.others.last ≡ Some key
-    → ((entry : Entry) → get old.entries key ≡ Some entry → entry.item.place ≤ item.place) → is_some item.cold ≡ false
+pub renewed_put : (old : Lists) (entries : Slab QueueEntry) (key : ℕ) (item : Queued) → old.others.last ≡ Some key
+    → ((entry : QueueEntry) → get old.entries key ≡ Some entry → entry.item.place ≤ item.place) → is_some item.cold ≡ false
     → ((k : ℕ) → get entries k ≡ cond (key == k) (option_map (with_item item) (get old.entries k)) (get old.entries k)) → slab_len entries ≡ slab_len old.entries
     → (are : AreLists old) (node : Node) → find_node (nodes_in are) item.page.0 ≡ Some node → node.key ≡ key
     → Put are (record { entries = entries; cold = old.cold; others = old.others }) (record { key = key; item = item })
 renewed_put old entries key item last place warm edit len are node found own =
-    let held : option_map (λ (e : Entry). e.item) (get old.entries node.key) ≡ Some node.item =
-    node_found (λ n. option_map (λ (e : Entry). e.item) (get old.entries n.key) ≡ Some n.item) (nodes_in are) item.page.0 node (all_holding old are) found in
-    let here = entry_of (get old.entries key) node.item (ap (λ k. option_map (λ (e : Entry). e.item) (get old.entries k)) (sym own) ∙ held) in
+    let held : option_map (λ (e : QueueEntry). e.item) (get old.entries node.key) ≡ Some node.item =
+    node_found (λ n. option_map (λ (e : QueueEntry). e.item) (get old.entries n.key) ≡ Some n.item) (nodes_in are) item.page.0 node (all_holding old are) found in
+    let here = entry_of (get old.entries key) node.item (ap (λ k. option_map (λ (e : QueueEntry). e.item) (get old.entries k)) (sym own) ∙ held) in
     last_renewed old are entries key here.0 item node last here.1 (place here.0 here.1) warm found own edit len

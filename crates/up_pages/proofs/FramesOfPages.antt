@@ -9,7 +9,7 @@ use Rattle.up_bank.specs.Standing.{Held as Frame}
 use Rattle.up_pages.specs.Frames.{Each}
 use Rattle.up_pages.specs.Pages.{frame_of, frames_down}
 use Rattle.up_pages.specs.declared.page.Page.{Page}
-use Rattle.up_pages.proofs.Counting.{count_last}
+use Rattle.up_pages.proofs.HeldCounts.{count_last}
 
 pub each_join : (P : Frame → Type 0) (a b : List Frame) → Each P a → Each P b → Each P (a ++ b)
 each_join P [] b e f = f
