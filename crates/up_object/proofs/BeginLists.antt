@@ -1,7 +1,7 @@
 -- The begins that got numbers, with one entry more.
-use Rattle.std.proofs.Common.{◌≡◌, ℕ, ◌==◌, Bool, true, false, cond, Option, Some, None, option_map, List, [], ◌∷◌, ◌++◌, length, suc, slice_get, refl, ap, sym, ◌∙◌, ◌≤◌, arith}
+use Rattle.std.proofs.Common.{◌≡◌, ℕ, ◌==◌, true, false, cond, Option, Some, None, option_map, List, [], ◌∷◌, ◌++◌, length, suc, slice_get, refl, ap, sym, ◌∙◌, ◌≤◌, arith}
 use Rattle.std.specs.Prelude.{option_to_list}
-use Rattle.up_model.specs.Numbers.{BeginOf, is_began, next_number, begin_named}
+use Rattle.up_model.specs.Numbers.{BeginOf, is_began, next_number}
 use Rattle.up_model.specs.Legal.{Legal}
 use Rattle.up_model.specs.declared.entry.Birth.{Birth}
 use Rattle.up_model.specs.declared.entry.Call.{Call}
@@ -9,7 +9,7 @@ use Rattle.up_model.specs.declared.entry.Call.TheVariants as calls
 use Rattle.up_model.specs.declared.entry.Reply.{Reply}
 use Rattle.up_model.specs.declared.entry.Reply.TheVariants.{Began}
 use Rattle.up_model.specs.declared.entry.Entry.{Entry}
-use Rattle.up_model.proofs.Numbered.{BeginsNext, entry_numbers, number_of, unnumbered}
+use Rattle.up_model.proofs.BeginNumbers.{BeginsNext, entry_numbers, number_of, unnumbered}
 use Rattle.up_object.specs.declared.numbers.Begin.{Begin}
 use Rattle.up_object.specs.Stands.{is_leave}
 use Rattle.up_object.specs.Numbers.{BeginsStand, begin_at, begin_in, as_begin}

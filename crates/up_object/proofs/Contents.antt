@@ -10,7 +10,7 @@ use Rattle.up_span.specs.Runs.{kind_runs}
 use Rattle.up_pages.specs.declared.page.Page.{Page}
 use Rattle.up_pages.specs.declared.page.Page.TheVariants.{Absent, Zero, Held as HeldPage}
 use Rattle.up_pages.specs.Pages.{PageMap, page_at, look_of as look_at, bytes_in, unclean_kind as kept_kind, unclean_runs as kept_runs}
-use Rattle.up_pages.proofs.Counting.{count_last}
+use Rattle.up_pages.proofs.HeldCounts.{count_last}
 use Rattle.up_model.specs.Value.{value, there, marked, begun, settled, byte_or_zero, bytes_from}
 use Rattle.up_model.specs.States.{unclean}
 use Rattle.up_model.specs.Pins.{loaned}

@@ -1,5 +1,5 @@
 -- Pages that are cut off, and an object that grows.
-use Rattle.std.proofs.Common.{◌≡◌, ℕ, ◌+◌, ◌-◌, ◌<◌, ◌≤◌, ◌&&◌, Bool, true, false, cond, List, [], ◌∷◌, ◌++◌, length, zero, suc, refl, ap, sym, ◌∙◌, subst, arith, nat_le, nat_lt, inl, inr}
+use Rattle.std.proofs.Common.{◌≡◌, ℕ, ◌+◌, ◌-◌, ◌<◌, ◌≤◌, ◌&&◌, true, false, List, [], ◌∷◌, ◌++◌, length, zero, suc, refl, ap, sym, ◌∙◌, subst, arith, nat_le, nat_lt, inl, inr}
 use Rattle.std.proofs.lemmas.Bool.{cases_lt}
 use Rattle.std.proofs.lemmas.Bool.Decides.{nat_tests}
 use Rattle.up_num.specs.declared.answers.AskKind.TheVariants.{Dirty as DirtyAsk}
@@ -15,7 +15,7 @@ use Rattle.up_queues.specs.declared.queued.Queued.{Queued}
 use Rattle.up_queues.specs.Queue.{Queue, find_page}
 use Rattle.up_model.specs.Size.{size}
 use Rattle.up_model.specs.Asks.{asked}
-use Rattle.up_model.specs.Looks.{PageLook, Missing, look_of}
+use Rattle.up_model.specs.Looks.{Missing}
 use Rattle.up_model.specs.Changes.{Vanishes}
 use Rattle.up_model.specs.Concerns.{concerns}
 use Rattle.up_model.specs.declared.entry.Birth.{Birth}
@@ -29,10 +29,10 @@ use Rattle.up_model.specs.Numbers.{next_number}
 use Rattle.up_object.proofs.PageNumbers.{numbers_next}
 use Rattle.std.specs.Prelude.{option_to_list}
 use Rattle.up_object.specs.Parts.{BankPair, PageStands, shown, no_mark, mark_at}
-use Rattle.up_object.specs.Stands.{Tally, seat, leaves_after, StandsFor}
-use Rattle.up_object.specs.Change.{Done, is_done, PagesStand, AllOwn, Rests, Counts, counts_of, Change, grown, ChangeStandsFor}
+use Rattle.up_object.specs.Stands.{Tally, leaves_after, StandsFor}
+use Rattle.up_object.specs.Change.{CallProgress, is_done, PagesStand, AllOwn, Rests, Counts, grown, ChangeStandsFor}
 use Rattle.up_object.specs.Whole.{Whole}
-use Rattle.up_object.proofs.Tallying.{empty_are}
+use Rattle.up_object.proofs.Tallies.{empty_are}
 
 -- one mark more, that is none
 pub none_more : (xs : List Mark) (p : ℕ) → mark_at (xs ++ no_mark ∷ []) p ≡ mark_at xs p
@@ -68,7 +68,7 @@ absent_from banks pages marks birth e h first limit p stand whole gone low = eli
 ]
 
 -- a page outside the range rests
-pub rests_outside : (birth : Birth) (e : Entry) (h : List Entry) (done : Done) → done.mark ≡ done.limit →
+pub rests_outside : (birth : Birth) (e : Entry) (h : List Entry) (done : CallProgress) → done.mark ≡ done.limit →
     ((p : ℕ) → (nat_le done.first p && nat_lt p done.limit) ≡ false → asked birth (e ∷ h) DirtyAsk p ≡ asked birth h DirtyAsk p) →
     (p : ℕ) → (nat_le done.first p && nat_lt p done.limit) ≡ false → Rests birth e h done p
 rests_outside birth e h done ended same p out = record {
@@ -77,7 +77,7 @@ rests_outside birth e h done ended same p out = record {
 }
 
 -- what isn't done is outside the range
-pub keeps_outside : (banks : BankPair) (pages : PageMap) (marks : List Mark) (birth : Birth) (e : Entry) (h : List Entry) (done : Done) → PagesStand banks pages marks birth e h done → done.mark ≡ done.limit →
+pub keeps_outside : (banks : BankPair) (pages : PageMap) (marks : List Mark) (birth : Birth) (e : Entry) (h : List Entry) (done : CallProgress) → PagesStand banks pages marks birth e h done → done.mark ≡ done.limit →
     ((p : ℕ) → (nat_le done.first p && nat_lt p done.limit) ≡ false → concerns birth h e p ≡ false) → (p : ℕ) → is_done done p ≡ false → concerns birth h e p ≡ false
 keeps_outside banks pages marks birth e h done part ended keeps p out = keeps p (ap (λ (n : ℕ). nat_le done.first p && nat_lt p n) (sym ended) ∙ out)
 

@@ -1,21 +1,19 @@
 -- What is kept of a page by the numbers of begins, after one more entry, and which begins count for the page by it.
-use Rattle.std.proofs.Common.{◌≡◌, ℕ, ◌&&◌, ◌||◌, not, Bool, true, false, cond, Option, Some, None, is_some, option_map, List, ◌∷◌, length, slice_get, refl, ap, sym, ◌∙◌, subst, nat_le, nat_lt}
+use Rattle.std.proofs.Common.{◌≡◌, ℕ, ◌&&◌, ◌||◌, not, Bool, true, false, cond, Option, Some, None, is_some, option_map, List, ◌∷◌, slice_get, refl, ap, sym, ◌∙◌, nat_le, nat_lt}
 use Rattle.up_num.specs.Span.{covers}
-use Rattle.up_num.specs.declared.answers.PageState.{PageState}
-use Rattle.up_model.specs.Deeds.{AnyBegin, ThisBegin, named_by, dirties}
+use Rattle.up_model.specs.Deeds.{ThisBegin, named_by, dirties}
 use Rattle.up_model.specs.Value.{there, marked, begun_by, begun, settled}
 use Rattle.up_model.specs.States.{plain, unclean}
 use Rattle.up_model.specs.Pins.{loaned}
-use Rattle.up_model.specs.Legal.{Legal}
 use Rattle.up_model.specs.Numbers.{BeginOf, next_number, begin_named, dirtied_at, zero_until, counts_since}
 use Rattle.up_model.specs.Reply.{same_flag}
-use Rattle.up_model.specs.Looks.{PageLook, Missing, Zeros, Framed, look_by, look_of, is_unclean, awaits, lacks_own_frame, with_state}
+use Rattle.up_model.specs.Looks.{PageLook, Missing, Zeros, Framed, look_by, look_of, is_unclean, awaits, lacks_own_frame}
 use Rattle.up_model.specs.declared.entry.Birth.{Birth}
 use Rattle.up_model.specs.declared.entry.Entry.{Entry}
 use Rattle.up_object.specs.declared.marks.Mark.{Mark}
 use Rattle.up_object.specs.declared.numbers.Begin.{Begin}
-use Rattle.up_object.specs.Numbers.{NumbersStand, BeginsStand, as_begin, is_zeros, bared, counts_by, ended_by}
-use Rattle.up_object.proofs.Looking.{unclean_is}
+use Rattle.up_object.specs.Numbers.{NumbersStand, BeginsStand, as_begin, is_zeros, counts_by, ended_by}
+use Rattle.up_object.proofs.PageLooks.{unclean_is}
 
 zeros_by : (here mark rest run loan : Bool) → is_zeros (look_by here mark rest run loan) ≡ (here && mark)
 zeros_by false m s b l = refl

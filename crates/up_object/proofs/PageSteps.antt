@@ -1,5 +1,5 @@
 -- One page more of a range: what is still to come of it.
-use Rattle.std.proofs.Common.{◌≡◌, ◌<◌, ℕ, ◌+◌, ◌-◌, Bool, true, false, cond, Option, Some, None, zero, suc, refl, ap, ◌∙◌, arith}
+use Rattle.std.proofs.Common.{◌≡◌, ◌<◌, ℕ, ◌+◌, ◌-◌, Bool, true, false, cond, Some, zero, suc, ap, ◌∙◌, arith}
 use Rattle.up_span.specs.Pages.{first_page, count_pages}
 
 next_place : (first place : ℕ) → first + place + 1 ≡ first + (place + 1)

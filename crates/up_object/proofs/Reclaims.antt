@@ -9,7 +9,7 @@ use Rattle.up_num.specs.Pages.{page_number}
 use Rattle.up_num.specs.declared.pages.PageNo.{PageNo}
 use Rattle.up_queues.specs.declared.queued.Queued.{Queued}
 use Rattle.up_queues.specs.Queue.{find_page, colder, precedes, Each, InOrder, is_due, below_or as queue_below}
-use Rattle.up_queues.proofs.Queueing.{precedes_on, same}
+use Rattle.up_queues.proofs.OrderedItems.{precedes_on, same}
 use Rattle.up_model.specs.Size.{size}
 use Rattle.up_model.specs.Use.{last_use, cold_since, newest_epoch}
 use Rattle.up_model.specs.Order.{loose, reclaimable, place, below_or, goes_before, put_in, put_in_order, order}
@@ -23,7 +23,7 @@ use Rattle.up_model.proofs.Presence.{pages_within}
 use Rattle.up_model.proofs.Reclaiming.{loose_page}
 use Rattle.up_object.specs.Stands.{position_of, queued}
 use Rattle.up_object.specs.Ordering.{QueueKept, QueueIsOrder, QueueOfObject}
-use Rattle.up_object.proofs.Used.{loose_used}
+use Rattle.up_object.proofs.UsedPages.{loose_used}
 
 -- Of two pages that were used, the one whose item goes first goes before the other.
 

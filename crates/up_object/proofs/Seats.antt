@@ -1,24 +1,23 @@
 -- Which pages the queues have, how many these can be, and what a page's place is.
-use Rattle.std.proofs.Common.{◌≡◌, ℕ, ◌+◌, ◌-◌, ◌<◌, ◌≤◌, ◌==◌, ◌&&◌, not, Bool, true, false, cond, Option, Some, None, option_map, List, [], ◌∷◌, ◌++◌, length, zero, suc, refl, ap, sym, ◌∙◌, subst, arith, nat_le, nat_lt, inl, inr}
+use Rattle.std.proofs.Common.{◌≡◌, ℕ, ◌+◌, ◌-◌, ◌<◌, ◌≤◌, ◌==◌, ◌&&◌, not, Bool, true, false, cond, Option, Some, None, List, [], ◌∷◌, ◌++◌, length, zero, suc, refl, ap, sym, ◌∙◌, subst, arith, inl, inr}
 use Rattle.std.proofs.lemmas.Bool.{cases_eq}
 use Rattle.std.proofs.lemmas.Bool.Decides.{nat_tests}
 use Rattle.std.proofs.lemmas.List.{length-append}
 use Rattle.up_num.specs.Pages.{page_number}
-use Rattle.up_num.specs.declared.pages.PageNo.{PageNo}
 use Rattle.up_num.specs.declared.answers.AskKind.TheVariants.{Dirty as DirtyAsk}
 use Rattle.up_pages.specs.declared.page.Page.{Page}
 use Rattle.up_pages.specs.Pages.{look_of as look_at}
 use Rattle.up_queues.specs.declared.queued.Queued.{Queued}
-use Rattle.up_queues.specs.Queue.{find_page, InOrder, chilled}
-use Rattle.up_queues.proofs.Queueing.{taken_between, find_taken}
+use Rattle.up_queues.specs.Queue.{find_page, InOrder}
+use Rattle.up_queues.proofs.OrderedItems.{taken_between, find_taken}
 use Rattle.up_model.specs.Size.{size}
 use Rattle.up_model.specs.Value.{there, marked, settled, begun}
 use Rattle.up_model.specs.Pins.{pins, always, loaned}
 use Rattle.up_model.specs.Asks.{asked}
-use Rattle.up_model.specs.Use.{last_use, cold_since, generation}
+use Rattle.up_model.specs.Use.{generation}
 use Rattle.up_model.specs.Order.{loose}
 use Rattle.up_model.specs.Legal.{Legal}
-use Rattle.up_model.specs.Looks.{PageLook, Missing, Zeros, Framed, look_by, look_of, is_spare, has_frame, state_by}
+use Rattle.up_model.specs.Looks.{PageLook, Missing, Zeros, Framed, look_by, look_of, is_spare, has_frame}
 use Rattle.up_model.specs.Changes.{SamePage}
 use Rattle.up_model.specs.declared.entry.Birth.{Birth}
 use Rattle.up_model.specs.declared.entry.Entry.{Entry}
@@ -27,7 +26,7 @@ use Rattle.up_model.proofs.Presence.{pages_within}
 use Rattle.up_object.specs.declared.marks.Mark.{Mark}
 use Rattle.up_object.specs.declared.marks.Key.{Key}
 use Rattle.up_object.specs.Parts.{BankPair, PageStands, KeyStands, shown}
-use Rattle.up_object.specs.Stands.{position_of, queued, seat, may_go, keyed_item, recooled}
+use Rattle.up_object.specs.Stands.{position_of, queued, seat, may_go, keyed_item}
 
 -- How many pages the queues can have.
 
@@ -168,16 +167,3 @@ seat_beyond birth h legal p past = elim (loose birth h p) as (λ b. loose birth 
   | true ↦ λ q. let low = pages_within birth h legal p (loose_page birth h p q).here in absurd (omega arith)
   | false ↦ λ q. refl
 ] refl
-
--- an item that is used anew, and called cold where it was
-pub recooled_puts : (cold : Option ℕ) (b : Bool) (item : Queued) (old : Option Queued) → cond b (option_map (recooled cold) (cond b (Some item) old)) (cond b (Some item) old) ≡ cond b (Some (recooled cold item)) old
-recooled_puts cold true item old = refl
-recooled_puts cold false item old = refl
-
-cooled_by : (p aged used : ℕ) (cold : Option ℕ) →
-    recooled cold (record { page = page_number p; generation = aged; place = used; cold = None }) ≡ record { page = page_number p; generation = aged; place = used; cold = cold }
-cooled_by p aged used None = refl
-cooled_by p aged used (Some place) = refl
-
-pub cooled_item : (p : ℕ) (key : Key) → recooled key.cold (record { page = page_number p; generation = key.generation; place = key.used; cold = None }) ≡ keyed_item p key
-cooled_item p key = cooled_by p key.generation key.used key.cold

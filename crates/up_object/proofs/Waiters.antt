@@ -1,5 +1,5 @@
 -- What the asks show of tickets is what the definitions give.
-use Rattle.std.proofs.Common.{◌≡◌, ℕ, ◌+◌, ◌&&◌, not, Bool, true, false, cond, Option, Some, None, is_some, option_map, List, [], ◌∷◌, length, zero, suc, slice_get, refl, ap, sym, ◌∙◌, subst, arith, add-zero, zero-add}
+use Rattle.std.proofs.Common.{◌≡◌, ℕ, ◌+◌, true, false, cond, Option, Some, None, is_some, option_map, List, [], ◌∷◌, length, suc, slice_get, refl, ap, sym, ◌∙◌, subst, arith, add-zero, zero-add}
 use Rattle.up_num.specs.declared.answers.AskKind.{AskKind}
 use Rattle.up_num.specs.declared.answers.Outcome.{Outcome}
 use Rattle.up_asks.specs.declared.ticket.Ticket.{Ticket}
@@ -13,7 +13,7 @@ use Rattle.up_model.specs.declared.entry.Birth.{Birth}
 use Rattle.up_model.specs.declared.entry.Call.{Call}
 use Rattle.up_model.specs.declared.entry.Call.TheVariants.{Read, Write, Retry}
 use Rattle.up_model.specs.declared.entry.Entry.{Entry}
-use Rattle.up_model.proofs.Sending.{held_access}
+use Rattle.up_model.proofs.PacketsSent.{held_access}
 use Rattle.up_object.specs.Asks.{access_of, access_in, outcome_in, TicketsStand, AsksStand}
 
 -- Whom a call wakes.

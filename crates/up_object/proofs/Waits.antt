@@ -7,7 +7,7 @@ use Rattle.std.proofs.lemmas.Option.{slice_get-map}
 use Rattle.up_num.specs.declared.answers.AskKind.{AskKind}
 use Rattle.up_num.specs.declared.answers.AskKind.TheVariants.{Read, Dirty}
 use Rattle.up_num.specs.declared.answers.Outcome.{Outcome}
-use Rattle.up_num.specs.declared.answers.Outcome.TheVariants.{Waiting, Detached as DetachedOutcome}
+use Rattle.up_num.specs.declared.answers.Outcome.TheVariants.{Waiting}
 use Rattle.up_num.specs.declared.answers.Packet.{Packet}
 use Rattle.up_num.specs.declared.answers.Packet.TheVariants.{Complete}
 use Rattle.up_num.specs.Asks.{Ask, same_kind, is_waiting, then_outcome, resolved_for}
@@ -33,13 +33,13 @@ use Rattle.up_model.specs.declared.entry.Entry.{Entry}
 use Rattle.up_model.specs.declared.entry.Call.{Call}
 use Rattle.up_model.specs.declared.entry.Call.TheVariants as calls
 use Rattle.up_model.proofs.Bools.{not_true, and_false}
-use Rattle.up_model.proofs.Steps.{changes_roles, detached_refused, detached_kept, then_outcome-waiting}
+use Rattle.up_model.proofs.OneEntryMore.{changes_roles, detached_refused, detached_kept, then_outcome-waiting}
 use Rattle.up_model.proofs.Kept.{kept_asks, kept_spent}
 use Rattle.up_model.proofs.Resolved.{Accepted, accepted_asked, accepted_count, accepted_access, accepted_waits, accepted_owner, accepted_outcome, happens_accepted, happens_sent, happens_taken, detaches_accepted, detaches_sent, detaches_taken, packet_accepted, packet_sent, packet_taken, parks_asked, parks_sent, parks_attached, parks_count, parks_taken, parks_access, parks_waits, parks_owner, parks_outcome}
 use Rattle.up_object.specs.Asks.{access_of, access_in, outcome_in, TicketsStand, WaitersStand, AsksStandFor, AsksStand, room_of}
 use Rattle.up_object.specs.declared.marks.Mark.{Mark}
 use Rattle.up_object.specs.Parts.{BankPair}
-use Rattle.up_object.specs.Change.{Done, Rest, up_to, ChangeStandsFor}
+use Rattle.up_object.specs.Change.{CallProgress, Rest, up_to, ChangeStandsFor}
 use Rattle.up_object.proofs.Lists.{push_look, set_look, length_push}
 
 -- What stays at the end of a call.
@@ -348,7 +348,7 @@ takes_one a b birth e h late packet s p is new =
 
 -- The whole, where the asks alone are changed.
 
-pub answered : (banks : BankPair) (pages : PageMap) (marks : List Mark) (brings : FrameKind) (given back : Stock) (rest : Rest) (asks : Asking) (birth : Birth) (e : Entry) (h : List Entry) (done : Done) (asks_done spent_done : Bool) →
+pub answered : (banks : BankPair) (pages : PageMap) (marks : List Mark) (brings : FrameKind) (given back : Stock) (rest : Rest) (asks : Asking) (birth : Birth) (e : Entry) (h : List Entry) (done : CallProgress) (asks_done spent_done : Bool) →
     ChangeStandsFor banks pages marks brings given back rest birth e h done → AsksStandFor asks birth (up_to asks_done e h) (up_to spent_done e h) →
     ChangeStandsFor banks pages marks brings given back (record rest { asks = asks }) birth e h (record done { asks = asks_done; spent = spent_done })
 answered banks pages marks brings given back rest asks birth e h done asks_done spent_done s now = record {

@@ -23,7 +23,7 @@ use Rattle.up_object.specs.Asks.{AskRoom, AsksStandFor}
 use Rattle.up_object.specs.Stands.{Tally, TallyStands, seat, reserved, leaves_after}
 
 -- how far a call has come: its pages are those from `first` up to `limit`, and those below `mark` are done; then what else is done
-pub record Done : Type 0 where
+pub record CallProgress : Type 0 where
   pub first : ℕ
   pub mark : ℕ
   pub limit : ℕ
@@ -55,14 +55,14 @@ pub record Change : Type 0 where
   pub entry : Entry
   pub banks : BankPair
   pub brings : FrameKind
-  pub done : Done
+  pub done : CallProgress
   pub pages : ℕ
   pub given : ℕ
   pub frames : Counts
   pub room : AskRoom
 
 -- the page is one of those that are done
-abbrev pub is_done : Done → ℕ → Bool
+abbrev pub is_done : CallProgress → ℕ → Bool
 is_done done p = nat_le done.first p && nat_lt p done.mark
 
 -- the journal that a part stands for
@@ -70,7 +70,7 @@ abbrev pub up_to : Bool → Entry → List Entry → List Entry
 up_to done e h = cond done (e ∷ h) h
 
 -- one page further
-abbrev pub next_done : Done → Done
+abbrev pub next_done : CallProgress → CallProgress
 next_done done = record done { mark = done.mark + 1 }
 
 abbrev pub next : Change → Change
@@ -81,7 +81,7 @@ abbrev pub next_using : Bool → Change → Change
 next_using uses change = record change { done = next_done change.done; given = change.given - cond uses 1 0 }
 
 -- each page stands for the journal before the entry, or with it where it is done
-pub record PagesStand (banks : BankPair) (pages : PageMap) (marks : List Mark) (birth : Birth) (e : Entry) (h : List Entry) (done : Done) : Type 0 where
+pub record PagesStand (banks : BankPair) (pages : PageMap) (marks : List Mark) (birth : Birth) (e : Entry) (h : List Entry) (done : CallProgress) : Type 0 where
   pub each : (p : ℕ) → PageStands banks (page_at pages p) (mark_at marks p) birth (up_to (is_done done p) e h) p
   pub marked : size_of pages ≤ length marks
   pub order : done.first ≤ done.mark
@@ -101,13 +101,13 @@ AllOwn banks (frame ∷ frames) = (frame.bank ≡ bank_of banks frame.bank.kind)
 
 -- the frames that were given are of the bank of their kind, those that come back are of one of the two, and there is room for the one
 -- frame that each page that is left may bring, and for all that were given
-pub record FramesStand (banks : BankPair) (brings : FrameKind) (given back : Stock) (done : Done) : Type 0 where
+pub record FramesStand (banks : BankPair) (brings : FrameKind) (given back : Stock) (done : CallProgress) : Type 0 where
   pub given_own : AllAre (bank_of banks brings) given.items
   pub back_own : AllOwn banks back.items
   pub room : length back.items + length given.items + done.limit ≤ back.room + done.mark
 
 -- a page keeps its place in the queues: it wasn't changed, and it is asked for with DIRTY as before
-pub record Rests (birth : Birth) (e : Entry) (h : List Entry) (done : Done) (p : ℕ) : Type 0 where
+pub record Rests (birth : Birth) (e : Entry) (h : List Entry) (done : CallProgress) (p : ℕ) : Type 0 where
   pub undone : is_done done p ≡ false
   pub unasked : asked birth (e ∷ h) DirtyAsk p ≡ asked birth h DirtyAsk p
 
@@ -123,7 +123,7 @@ pub record Rest : Type 0 where
 
 -- it stands for the journal before the entry, or with it where it is done; the queues and the begins wait for the end of the call, and
 -- there is room for the entry, and for the begin that it gives a number
-pub record RestStands (rest : Rest) (pages : ℕ) (birth : Birth) (e : Entry) (h : List Entry) (done : Done) : Type 0 where
+pub record RestStands (rest : Rest) (pages : ℕ) (birth : Birth) (e : Entry) (h : List Entry) (done : CallProgress) : Type 0 where
   pub queued : (p : ℕ) → find_page rest.queue.items p ≡ seat birth h p
   pub wide : pages ≤ rest.queue.room
   pub asks : AsksStandFor rest.asks birth (up_to done.asks e h) (up_to done.spent e h)
@@ -136,7 +136,7 @@ pub record RestStands (rest : Rest) (pages : ℕ) (birth : Birth) (e : Entry) (h
   pub place : length (option_to_list (begin_in e)) ≤ rest.numbers.spare
 
 pub record ChangeStandsFor (banks : BankPair) (pages : PageMap) (marks : List Mark) (brings : FrameKind) (given back : Stock) (rest : Rest)
-    (birth : Birth) (e : Entry) (h : List Entry) (done : Done) : Type 0 where
+    (birth : Birth) (e : Entry) (h : List Entry) (done : CallProgress) : Type 0 where
   pub legal : Legal birth h
   pub kinds : (banks.ordinary.kind ≡ Ordinary) × (banks.loaned.kind ≡ Loaned)
   pub sized : size_of pages ≡ size birth (up_to done.size e h)

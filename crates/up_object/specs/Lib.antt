@@ -4,9 +4,10 @@ pub mod Asks
 pub mod Change
 pub mod Changing
 pub mod Whole
+pub mod Answered
 pub mod Numbers
 pub mod Object
 pub mod Ordering
 pub mod Roles
-pub mod Steps
+pub mod OneCall
 pub mod Tests

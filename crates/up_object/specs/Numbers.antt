@@ -4,7 +4,7 @@ use Rattle.std.specs.Prelude.{◌≡◌, ℕ, ◌&&◌, ◌||◌, not, Bool, tru
 use Rattle.up_num.specs.Span.{Span, covers}
 use Rattle.up_model.specs.States.{plain}
 use Rattle.up_model.specs.Numbers.{BeginOf, is_began, next_number, begin_named, dirtied_at, zero_until}
-use Rattle.up_model.specs.Looks.{PageLook, Missing, Zeros, Framed, awaits, is_unclean}
+use Rattle.up_model.specs.Looks.{PageLook, Zeros, awaits, is_unclean}
 use Rattle.up_model.specs.declared.entry.Birth.{Birth}
 use Rattle.up_model.specs.declared.entry.Call.{Call}
 use Rattle.up_model.specs.declared.entry.Call.TheVariants as calls

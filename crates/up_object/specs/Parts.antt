@@ -1,5 +1,5 @@
 -- What an object keeps, as plain values, and when a page of it stands for a journal.
-use Rattle.std.specs.Prelude.{◌≡◌, ℕ, ◌+◌, ◌*◌, ◌<◌, Bool, true, false, cond, Option, Some, None, List, length, slice_index_or, get_or}
+use Rattle.std.specs.Prelude.{◌≡◌, ℕ, ◌+◌, ◌*◌, ◌<◌, Bool, true, false, Option, Some, None, List, length, slice_index_or, get_or}
 use Rattle.up_num.specs.declared.answers.PageState.{PageState}
 use Rattle.up_num.specs.declared.answers.PageState.TheVariants.{Clean}
 use Rattle.up_bank.specs.Standing.{BankId, Held as Frame}
@@ -9,7 +9,7 @@ use Rattle.up_pages.specs.declared.page.Page.{Page}
 use Rattle.up_pages.specs.declared.page.Page.TheVariants.{Absent, Zero, Held as HeldPage}
 use Rattle.up_pages.specs.declared.page.Look.{Look}
 use Rattle.up_pages.specs.declared.page.Look.TheVariants as look
-use Rattle.up_pages.specs.Pages.{PageMap, page_at, size_of, look_of as look_at}
+use Rattle.up_pages.specs.Pages.{look_of as look_at}
 use Rattle.up_model.specs.Value.{value}
 use Rattle.up_model.specs.Pins.{pins, always}
 use Rattle.up_model.specs.Use.{last_use, cold_since, generation}

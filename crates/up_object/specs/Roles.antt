@@ -1,5 +1,5 @@
 -- Who acts on an object, with one less.
-use Rattle.std.specs.Prelude.{ℕ, ◌-◌, Bool, cond}
+use Rattle.std.specs.Prelude.{◌-◌, Bool, cond}
 use Rattle.up_object.specs.declared.tally.Tally.{Tally}
 
 -- one user less, or one pager

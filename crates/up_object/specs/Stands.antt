@@ -1,17 +1,14 @@
 -- When the parts of an object stand for its journal: asked pages, what is counted, and which pages the queues have.
-use Rattle.std.specs.Prelude.{◌≡◌, ℕ, ◌+◌, ◌-◌, ◌<◌, ◌≤◌, ◌==◌, ◌&&◌, not, Bool, true, false, cond, Option, Some, None, option_map, List, [], ◌∷◌, length, suc, nat_le, nat_lt}
+use Rattle.std.specs.Prelude.{◌≡◌, ℕ, ◌+◌, ◌-◌, ◌≤◌, ◌==◌, ◌&&◌, not, Bool, true, false, cond, Option, Some, None, List, [], ◌∷◌, length, suc}
 use Rattle.up_num.specs.Pages.{page_number}
 use Rattle.up_num.specs.declared.answers.AskKind.TheVariants.{Dirty as DirtyAsk}
-use Rattle.up_bank.specs.declared.kind.FrameKind.{FrameKind}
 use Rattle.up_bank.specs.declared.kind.FrameKind.TheVariants.{Ordinary, Loaned}
 use Rattle.up_asks.specs.Asking.{Asking, asked_in}
-use Rattle.up_pages.specs.declared.page.Page.{Page}
 use Rattle.up_pages.specs.Pages.{PageMap, page_at, size_of, look_of as look_at}
 use Rattle.up_queues.specs.declared.queued.Queued.{Queued}
-use Rattle.up_queues.specs.Queue.{Queue, find_page, chilled}
+use Rattle.up_queues.specs.Queue.{Queue, find_page}
 use Rattle.up_model.specs.Size.{size}
 use Rattle.up_model.specs.Roles.{users, pagers, was_detached}
-use Rattle.up_model.specs.Asks.{asked}
 use Rattle.up_model.specs.Use.{last_use, cold_since, generation, newest_epoch}
 use Rattle.up_model.specs.Order.{loose}
 use Rattle.up_model.specs.Modified.{modified}
@@ -35,7 +32,7 @@ Tally = TallyValue
 pub record TallyStands (tally : Tally) (birth : Birth) (h : List Entry) : Type 0 where
   pub acting : tally.users ≡ users birth h
   pub paging : tally.pagers ≡ pagers birth h
-  pub cut_off : tally.cut ≡ was_detached h
+  pub cut_off : tally.detached ≡ was_detached h
   pub changed : tally.modified ≡ modified birth h
 
 abbrev pub is_leave : Call → Bool
@@ -71,11 +68,6 @@ may_go look mark asks = is_spare look && ((mark.pins == 0) && (not mark.always &
 
 abbrev pub keyed_item : ℕ → Key → Queued
 keyed_item p key = record { page = page_number p; generation = key.generation; place = key.used; cold = key.cold }
-
--- the item, called cold where a place is given
-abbrev pub recooled : Option ℕ → Queued → Queued
-recooled None item = item
-recooled (Some place) item = chilled place item
 
 -- what the queues are to have of a page
 abbrev pub item_of : PageMap → List Mark → Asking → ℕ → Option Queued

@@ -1,9 +1,9 @@
 -- What contracts see of an object: its birth, its journal, newest entry first, and the banks of its frames.
-use Rattle.std.specs.Prelude.{ℕ, ◌&&◌, Bool, true, false, List, ◌∷◌}
+use Rattle.std.specs.Prelude.{ℕ, Bool, true, false, List, ◌∷◌}
 use Rattle.up_bank.specs.declared.kind.FrameKind.{FrameKind}
 use Rattle.up_span.specs.Pages.{count_pages}
 use Rattle.up_model.specs.Size.{size}
-use Rattle.up_model.specs.Looks.{PageLook, Missing, Zeros, Framed, look_of}
+use Rattle.up_model.specs.Looks.{PageLook, Framed, look_of}
 use Rattle.up_model.specs.Legal.{Life, due}
 use Rattle.up_model.specs.declared.entry.Birth.{Birth}
 use Rattle.up_model.specs.declared.entry.Call.{Call}

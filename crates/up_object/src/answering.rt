@@ -1,6 +1,6 @@
 //! Changes of those who wait in the middle of a call: an access parks, events happen, a packet is taken, all are detached, a ticket
 //! is spent.
-ghost use Rattle.std.specs.Prelude.{◌≡◌, ℕ, ◌≤◌, ◌<◌, not, true, false, length, is_some, Some};
+ghost use Rattle.std.specs.Prelude.{◌≡◌, ◌≤◌, ◌<◌, not, true, false, length, is_some, Some};
 ghost use Rattle.up_span.specs.Runs.{runs};
 ghost use Rattle.up_asks.specs.Asking.{events_of};
 ghost use Rattle.up_asks.specs.Keeps.{AllFixed};

@@ -1,5 +1,5 @@
 //! What a call reads of the begins that got numbers, and of a page that an end is for.
-ghost use Rattle.std.specs.Prelude.{◌≡◌, ℕ, ◌&&◌, true, is_some, nat_lt, Option};
+ghost use Rattle.std.specs.Prelude.{◌≡◌, ◌&&◌, true, is_some, Option};
 ghost use Rattle.up_num.specs.Span as spans;
 ghost use Rattle.up_model.specs.Deeds.{named_by};
 ghost use Rattle.up_model.specs.Value.{begun_by};

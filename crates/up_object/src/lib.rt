@@ -1,5 +1,6 @@
 //! One memory object, whole: its pages over frames of two banks, pins, hints, queues, asks, roles, and the journal that all of it
 //! stands for. Calls stand in crates above; they are written over `parts::Changing`, which changes one part at a time.
+//! Used through `up_core`, by `judge_journals`: all calls on worked journals.
 #![tactic(auto)]
 
 mod answering;
@@ -28,7 +29,7 @@ pub use leaving::open_leaving;
 pub use marks::{Key, Mark};
 pub use numbers::{Begin, Numbers};
 pub use object::Object;
-pub use ranges::{count_of, end_of, first_of};
+pub use ranges::{count_of, end_of, first_of, has_end};
 pub use sizing::open_growing;
 pub use step::{By, Declined, FramesIn, Step, Stepped, decline, lacking, note_with};
 pub use tally::Tally;

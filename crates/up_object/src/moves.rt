@@ -60,6 +60,13 @@ pub(crate) fn bared(pages: &PageList, marks: &Marks, numbers: &Numbers, page: u3
     bared_by(pages.look(PageNo(page)), numbers.count(), marks.at(page))
 }
 
+/// Tells the prover that a frame has a page of bytes.
+fn is_whole(frame: &Frame)
+    ensures { length frame.now.bytes ≡ 4096 }
+{
+    frame.bytes();
+}
+
 /// The last of some frames.
 pub(crate) fn last_of(frames: &mut Frames) -> Frame
     requires { 0 < length frames.old.items }
@@ -69,7 +76,7 @@ pub(crate) fn last_of(frames: &mut Frames) -> Frame
 {
     match frames.pop() {
         Some(frame) => {
-            let _ = frame.bytes();
+            is_whole(&frame);
             frame
         }
         None => unreachable!(),

@@ -1,4 +1,4 @@
-ghost use Rattle.std.specs.Prelude.{◌≡◌, ℕ, ◌≤◌, [], ◌++◌, length, option_to_list, slice_get, OnOk};
+ghost use Rattle.std.specs.Prelude.{◌≡◌, ◌≤◌, [], ◌++◌, length, option_to_list, slice_get, OnOk};
 ghost use Rattle.up_object.specs.Numbers.{begin_by, begin_in};
 
 use std::alloc::Global;

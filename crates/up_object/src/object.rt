@@ -78,7 +78,7 @@ impl Object {
         let tally = Tally {
             users: birth.users,
             pagers: birth.pagers,
-            cut: false,
+            detached: false,
             modified: false,
         };
         let asks = Asks::new(alloc)?;
@@ -128,6 +128,20 @@ impl Object {
         ensures small { result < 2 ^ 63 }
     {
         self.log.count()
+    }
+
+    /// Tells the prover that the journal is legal.
+    pub fn is_legal(&self)
+        ensures { Legal self.now.birth self.now.journal }
+    {
+        self.size();
+    }
+
+    /// Tells the prover that the number of pages fits 32 bits.
+    pub fn is_bounded(&self)
+        ensures { sizes.size self.now.birth self.now.journal < 2 ^ 32 }
+    {
+        self.size();
     }
 
     /// How many pages the object has.

@@ -1,4 +1,4 @@
-ghost use Rattle.std.specs.Prelude.{◌≡◌, ℕ, ◌+◌, ◌-◌, ◌<◌, ◌≤◌, ◌==◌, ◌&&◌, ◌∷◌, true, false, length, option_to_list, nat_le, nat_lt, None, IfOk, IfErr, OnOk};
+ghost use Rattle.std.specs.Prelude.{◌≡◌, ℕ, ◌+◌, ◌-◌, ◌<◌, ◌≤◌, ◌&&◌, ◌∷◌, true, false, length, option_to_list, nat_le, nat_lt, None, IfOk, IfErr, OnOk};
 ghost use Rattle.up_bank.specs.declared.kind.FrameKind.{FrameKind as FrameKindValue};
 ghost use Rattle.up_num.specs.declared.answers.AskKind.{AskKind as AskKindValue};
 ghost use Rattle.up_asks.specs.Asking.{pages_of, SameAsks};

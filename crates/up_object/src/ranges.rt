@@ -1,4 +1,4 @@
-ghost use Rattle.std.specs.Prelude.{◌≡◌, ◌+◌, ◌<◌, ◌^◌, not};
+ghost use Rattle.std.specs.Prelude.{◌≡◌, ◌+◌, ◌<◌, ◌^◌};
 ghost use Rattle.up_model.specs.Size as sizes;
 ghost use Rattle.up_model.specs.Value as values;
 ghost use Rattle.up_model.specs.Pins as pinning;
@@ -50,6 +50,11 @@ pub fn end_of(range: PageRange) -> u32
     range.first + range.count
 }
 
+/// Tells the prover that the number behind a range's last page fits 32 bits.
+pub fn has_end(range: PageRange)
+    ensures { range.first + range.count < 2 ^ 32 }
+{}
+
 fn is_present(look: Look) -> bool
     ensures { result ≡ looks.is_present (shown look) }
 {
@@ -86,7 +91,7 @@ impl Object {
     }
 
     /// Whether a page is there.
-    #[tactic(auto, using(crate::proofs::Looking::present_is))]
+    #[tactic(auto, using(crate::proofs::PageLooks::present_is))]
     pub fn has_page(&self, page: PageNo) -> bool
         ensures { result ≡ values.there self.now.birth self.now.journal page.0 }
     {
@@ -94,16 +99,16 @@ impl Object {
     }
 
     /// Whether a page has a loaned frame.
-    #[tactic(auto, using(crate::proofs::Looking::loan_is))]
+    #[tactic(auto, using(crate::proofs::PageLooks::loan_is))]
     pub fn is_loaned(&self, page: PageNo) -> bool
         ensures { result ≡ pinning.loaned self.now.birth self.now.journal page.0 }
     {
-        let _ = self.size();
+        self.is_legal();
         has_loan(self.look(page))
     }
 
     /// Whether what a page has isn't written back.
-    #[tactic(auto, using(crate::proofs::Looking::unclean_is))]
+    #[tactic(auto, using(crate::proofs::PageLooks::unclean_is))]
     pub fn is_unclean(&self, page: PageNo) -> bool
         ensures { result ≡ states.unclean self.now.birth self.now.journal page.0 }
     {
@@ -111,11 +116,11 @@ impl Object {
     }
 
     /// Whether a pin gives a page a frame of its own.
-    #[tactic(auto, using(crate::proofs::Looking::own_is))]
+    #[tactic(auto, using(crate::proofs::PageLooks::own_is))]
     pub fn needs_frame(&self, page: PageNo) -> bool
         ensures { result ≡ replies.needs_own_frame self.now.birth self.now.journal page.0 }
     {
-        let _ = self.size();
+        self.is_legal();
         lacks_own(self.look(page))
     }
 
@@ -174,7 +179,7 @@ impl Object {
     pub fn first_absent(&self, range: PageRange) -> Option<u32>
         ensures { result ≡ replies.first_in (replies.absent self.now.birth self.now.journal) range }
     {
-        let _ = end_of(range);
+        has_end(range);
         self.first_where(PageTest::Absent, first_of(range), count_of(range))
     }
 
@@ -182,7 +187,7 @@ impl Object {
     pub fn first_pinned(&self, range: PageRange) -> Option<u32>
         ensures { result ≡ replies.first_in (replies.is_pinned self.now.journal) range }
     {
-        let _ = end_of(range);
+        has_end(range);
         self.first_where(PageTest::Pinned, first_of(range), count_of(range))
     }
 
@@ -190,7 +195,7 @@ impl Object {
     pub fn first_unpinned(&self, range: PageRange) -> Option<u32>
         ensures { result ≡ replies.first_in (replies.is_unpinned self.now.journal) range }
     {
-        let _ = end_of(range);
+        has_end(range);
         self.first_where(PageTest::Unpinned, first_of(range), count_of(range))
     }
 
@@ -198,7 +203,7 @@ impl Object {
     pub fn first_full(&self, range: PageRange) -> Option<u32>
         ensures { result ≡ replies.first_in (replies.is_full_of_pins self.now.journal) range }
     {
-        let _ = end_of(range);
+        has_end(range);
         self.first_where(PageTest::FullOfPins, first_of(range), count_of(range))
     }
 
@@ -206,7 +211,7 @@ impl Object {
     pub fn count_absent(&self, range: PageRange) -> u32
         ensures { result ≡ replies.count_in (replies.absent self.now.birth self.now.journal) range }
     {
-        let _ = end_of(range);
+        has_end(range);
         self.count_where(PageTest::Absent, first_of(range), count_of(range))
     }
 
@@ -214,7 +219,7 @@ impl Object {
     pub fn count_loaned(&self, range: PageRange) -> u32
         ensures { result ≡ replies.count_in (pinning.loaned self.now.birth self.now.journal) range }
     {
-        let _ = end_of(range);
+        has_end(range);
         self.count_where(PageTest::Loaned, first_of(range), count_of(range))
     }
 
@@ -222,7 +227,7 @@ impl Object {
     pub fn count_needing_frames(&self, range: PageRange) -> u32
         ensures { result ≡ replies.count_in (replies.needs_own_frame self.now.birth self.now.journal) range }
     {
-        let _ = end_of(range);
+        has_end(range);
         self.count_where(PageTest::NeedsOwnFrame, first_of(range), count_of(range))
     }
 }

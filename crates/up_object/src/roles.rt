@@ -2,7 +2,7 @@ ghost use Rattle.std.specs.Prelude.{◌≡◌, true, false};
 ghost use Rattle.up_model.specs.Roles as roles;
 ghost use Rattle.up_model.specs.Modified.{modified};
 ghost use Rattle.up_model.specs.Concerns.{keeps_roles, keeps_modified};
-ghost use Rattle.up_model.specs.Changes.{SetsModified, Departs, CutsOff};
+ghost use Rattle.up_model.specs.Changes.{SetsModified, Departs, SetsDetached};
 ghost use Rattle.up_object.specs.Change.{tally_set};
 ghost use Rattle.up_object.specs.Roles.{departed};
 
@@ -37,7 +37,7 @@ impl Object {
     pub fn detached(&self) -> bool
         ensures { result ≡ roles.detached self.now.birth self.now.journal }
     {
-        self.tally.cut || self.tally.users == 0 || self.tally.pagers == 0
+        self.tally.detached || self.tally.users == 0 || self.tally.pagers == 0
     }
 
     /// Whether the object was changed since its birth, or since the last stats call that resets this.
@@ -86,13 +86,13 @@ impl Changing {
     }
 
     /// Remembers that a detach was accepted.
-    pub fn cut_off(&mut self)
+    pub fn set_detached(&mut self)
         requires first { self.old.done.tally ≡ false }
-        requires cuts { CutsOff self.old.birth self.old.entry self.old.journal }
+        requires cuts { SetsDetached self.old.birth self.old.entry self.old.journal }
         requires unchanged { keeps_modified self.old.entry ≡ true }
         ensures { self.new ≡ tally_set self.old }
     {
-        self.tally.cut = true;
+        self.tally.detached = true;
         self.tally_done = true;
     }
 }

@@ -1,10 +1,9 @@
 ghost use Rattle.std.specs.Prelude.{◌≡◌, ℕ, ◌<◌, ◌≤◌, ◌==◌, ◌&&◌, cond, length, nat_le, nat_lt, option_map, Some, None};
-ghost use Rattle.up_num.specs.declared.answers.AskKind.TheVariants.{Dirty as DirtyAsk};
 ghost use Rattle.up_pages.specs.Pages.{page_at, size_of, look_of as look_at};
 ghost use Rattle.up_queues.specs.Queue.{find_page};
 ghost use Rattle.up_model.specs.Looks as looks;
 ghost use Rattle.up_object.specs.Parts.{shown, mark_at};
-ghost use Rattle.up_object.specs.Stands.{may_go, keyed_item, item_of, recooled};
+ghost use Rattle.up_object.specs.Stands.{may_go, keyed_item, item_of};
 
 use crate::marks::{Key, Marks};
 use up_asks::Asks;
@@ -33,24 +32,6 @@ fn key_of(pages: &PageList, marks: &Marks, asks: bool, page: PageNo) -> Option<K
     }
 }
 
-fn cool(queues: &mut Queues, page: PageNo, cold: Option<u64>)
-    ensures pages { (p : ℕ) → find_page queues.new.items p ≡ cond (page.0 == p) (option_map (recooled cold) (find_page queues.old.items p)) (find_page queues.old.items p) }
-    ensures room { queues.new.room ≡ queues.old.room }
-{
-    if let Some(place) = cold {
-        queues.cold(page, place);
-    }
-}
-
-fn put_key(queues: &mut Queues, page: PageNo, key: Key)
-    requires { find_page queues.old.items page.0 ≡ None → length queues.old.items < queues.old.room }
-    ensures pages { (p : ℕ) → find_page queues.new.items p ≡ cond (page.0 == p) (Some (keyed_item page.0 key)) (find_page queues.old.items p) }
-    ensures room { queues.new.room ≡ queues.old.room }
-{
-    queues.used(page, key.generation, key.used);
-    cool(queues, page, key.cold);
-}
-
 /// Gives a page its place in the queues, or takes it out.
 fn seat_page(queues: &mut Queues, page: PageNo, key: Option<Key>)
     requires { find_page queues.old.items page.0 ≡ None → length queues.old.items < queues.old.room }
@@ -59,7 +40,7 @@ fn seat_page(queues: &mut Queues, page: PageNo, key: Option<Key>)
 {
     match key {
         None => queues.drop_page(page),
-        Some(key) => put_key(queues, page, key),
+        Some(key) => queues.seat(page, key.generation, key.used, key.cold),
     }
 }
 

@@ -1,4 +1,4 @@
-ghost use Rattle.std.specs.Prelude.{◌≡◌, ℕ, ◌≤◌, ◌+◌, ◌==◌, ◌&&◌, ◌||◌, not, [], ◌∷◌, true, false, length, IsNone, IsTrue};
+ghost use Rattle.std.specs.Prelude.{◌≡◌, ℕ, ◌≤◌, ◌==◌, ◌&&◌, ◌||◌, not, true, false, length, IsNone, IsTrue};
 ghost use Rattle.up_model.specs.Changes.{IsDue};
 ghost use Rattle.up_model.specs.Concerns.{concerns, keeps_asks, keeps_roles, keeps_modified, keeps_size, is_retry, keeps_spent};
 ghost use Rattle.up_model.specs.Tickets.{keeps_ticket};
@@ -7,7 +7,7 @@ ghost use Rattle.up_model.specs.Reply.{counts_frames, frames_in, with_frames, pr
 ghost use Rattle.up_model.specs.declared.entry.Reply.{Reply as ReplyValue};
 ghost use Rattle.up_object.specs.Parts.{bank_of};
 ghost use Rattle.up_object.specs.Change.{AllAre};
-ghost use Rattle.up_object.specs.Steps.{Steps, brought_of, frames_of, brought_count, or_declined, declined_reply};
+ghost use Rattle.up_object.specs.OneCall.{DoesCall, brought_of, frames_of, brought_count, or_declined, declined_reply};
 
 use crate::object::Object;
 use crate::parts::note;
@@ -73,6 +73,13 @@ impl FramesIn {
             FramesIn::Given(frames) => brought_some(frames.len()),
             FramesIn::Scanned(_) => Brought::Scanned,
         }
+    }
+
+    /// Tells the prover that frames that a call's entry says were brought are at least one.
+    pub fn is_counted(&self)
+        ensures { counts_frames (brought_of self.now) ≡ true }
+    {
+        self.brought();
     }
 
     /// All of them, as a list.
@@ -147,7 +154,7 @@ pub fn note_with(
     requires size { keeps_size entry ≡ true }
     requires due { IsDue object.birth entry object.journal }
     requires same { reply ≡ entry.reply }
-    ensures { Steps object result.0 result.1 entry.who entry.epoch entry.call given.items }
+    ensures { DoesCall object result.0 result.1 entry.who entry.epoch entry.call given.items }
 {
     match note(object, alloc, entry, brings, given) {
         Ok((object, back)) => (object, Ok(Stepped { reply, back })),
@@ -170,7 +177,7 @@ pub fn decline(
     requires due { reply object.birth object.journal by.who by.epoch call ≡ declined_reply why }
     requires keeps { is_reset call ≡ false }
     requires spent { (not (is_retry call) || keeps_ticket (declined_reply why)) ≡ true }
-    ensures { Steps object result.0 result.1 by.who by.epoch call given.items }
+    ensures { DoesCall object result.0 result.1 by.who by.epoch call given.items }
 {
     let entry = by.entry(call, why.reply());
     note_with(object, alloc, entry, why.reply(), brings, given)

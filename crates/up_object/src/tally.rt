@@ -3,6 +3,6 @@
 pub struct Tally {
     pub users: u32,
     pub pagers: u32,
-    pub cut: bool,
+    pub detached: bool,
     pub modified: bool,
 }

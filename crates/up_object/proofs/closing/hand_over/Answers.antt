@@ -1,7 +1,7 @@
-use Rattle.std.proofs.Common.{◌≡◌, ℕ, ◌+◌, ◌∙◌, sym, ap, List, [], arith}
+use Rattle.std.proofs.Common.{◌≡◌, ◌∙◌, ap, List, [], arith}
 use Rattle.up_bank.specs.Standing.{Held as Frame}
 use Rattle.up_pages.specs.Frames.{count_kind}
-use Rattle.up_object.proofs.Ending.{empty_list, none_left}
+use Rattle.up_object.proofs.CallEnds.{empty_list, none_left}
 use Rattle.up_object.proofs.closing.hand_over.Goals as goal
 
 pub loop-place-preserved : goal.loop-place-preserved

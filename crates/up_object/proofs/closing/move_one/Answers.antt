@@ -1,4 +1,4 @@
-use Rattle.up_object.proofs.Ending.{own_move}
+use Rattle.up_object.proofs.CallEnds.{own_move}
 use Rattle.up_object.proofs.closing.move_one.Goals as goal
 
 pub returns-in-Some-clause-own : goal.returns-in-Some-clause-own

@@ -13,7 +13,7 @@ use Rattle.up_object.specs.Numbers.{begin_in}
 use Rattle.up_object.specs.Parts.{HasOwn}
 use Rattle.up_object.specs.Change.{AllOwn}
 use Rattle.up_object.specs.Whole.{Whole, held}
-use Rattle.up_object.proofs.Dropping.{Takes, Taken, evicted, evicted_frames}
+use Rattle.up_object.proofs.DroppedPages.{Takes, Taken, evicted, evicted_frames}
 use Rattle.up_object.proofs.evicting.evict.Goals as goal
 
 pub invariant_of-object-2 : goal.invariant_of-object-2

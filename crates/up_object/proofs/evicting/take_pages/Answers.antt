@@ -2,7 +2,7 @@ use Rattle.std.proofs.Common.{◌+◌, ◌-◌, ◌≤◌, suc, None, length, �
 use Rattle.up_pages.specs.declared.page.Page.TheVariants.{Absent}
 use Rattle.up_pages.specs.Pages.{page_at}
 use Rattle.up_queues.specs.Queue.{find_page}
-use Rattle.up_object.proofs.Dropping.{puts_next, owns_left, owns_back, room_next}
+use Rattle.up_object.proofs.DroppedPages.{puts_next, owns_left, owns_back, room_next}
 use Rattle.up_object.proofs.evicting.take_pages.Goals as goal
 
 pub loop-page-preserved : goal.loop-page-preserved

@@ -1,14 +1,9 @@
-use Rattle.std.proofs.Common.{◌≡◌, ℕ, ◌+◌, ◌≤◌, sym, subst, refl, ap, ◌∙◌, arith}
-use Rattle.up_bank.specs.Standing.{Held as Frame}
-use Rattle.up_pages.specs.Frames.{count_kind}
-use Rattle.up_model.specs.declared.entry.Call.{Call}
-use Rattle.up_object.specs.Change.{AllAre, of_kind, counts_of}
-use Rattle.up_object.specs.Parts.{bank_of}
-use Rattle.up_object.specs.Whole.{Whole, held}
+use Rattle.std.proofs.Common.{◌+◌, ◌≤◌, subst, refl, arith}
+use Rattle.up_object.specs.Whole.{Whole}
 use Rattle.up_object.specs.Stands.{leave_calls}
-use Rattle.up_object.proofs.Ending.{begins, frames_none}
+use Rattle.up_object.proofs.CallEnds.{begins, frames_none}
 use Rattle.up_object.proofs.BeginLists.{leave_unbegun}
-use Rattle.up_object.proofs.Tallying.{leave_fits, leaves_over, empty_are, no_room, same_asks}
+use Rattle.up_object.proofs.Tallies.{leave_fits, leaves_over, empty_are, no_room, same_asks}
 use Rattle.up_object.proofs.leaving.open_leaving.Goals as goal
 
 pub invariant_of-result : goal.invariant_of-result

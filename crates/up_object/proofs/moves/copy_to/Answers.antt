@@ -1,10 +1,9 @@
-use Rattle.std.proofs.Common.{◌≡◌, ℕ, ◌<◌, Some, refl, ap, sym, ◌∙◌, arith, replicate, length, get_or}
+use Rattle.std.proofs.Common.{ℕ, Some, ap, sym, ◌∙◌, arith, replicate, length, get_or}
 use Rattle.std.proofs.lemmas.List.{get_or-replicate, length-replicate}
 use Rattle.up_bank.specs.Standing.{Held as Frame}
-use Rattle.up_bank.specs.Bytes.{written}
 use Rattle.std.specs.Option.{option_copied}
 use Rattle.up_pages.specs.Pages.{page_at}
-use Rattle.up_object.proofs.Turning.{written_length, written_whole, blank_content}
+use Rattle.up_object.proofs.PageAtMark.{written_length, written_whole, blank_content}
 use Rattle.up_object.proofs.moves.copy_to.Goals as goal
 
 pub returns-in-None-clause-whole : goal.returns-in-None-clause-whole

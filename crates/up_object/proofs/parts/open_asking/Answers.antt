@@ -1,12 +1,11 @@
-use Rattle.std.proofs.Common.{◌≡◌, ℕ, ◌+◌, ◌-◌, ◌≤◌, ◌<◌, sym, subst, ap, ◌∙◌, arith, length}
+use Rattle.std.proofs.Common.{◌≡◌, ℕ, ◌+◌, ◌-◌, ◌≤◌, ◌<◌, sym, subst, ◌∙◌, length}
 use Rattle.up_pages.specs.Frames.{count_kind}
 use Rattle.up_model.specs.Size.{size}
 use Rattle.up_object.specs.Change.{AllAre, of_kind, counts_of}
 use Rattle.up_object.specs.Parts.{bank_of}
 use Rattle.up_object.specs.Whole.{Whole, held}
-use Rattle.up_object.specs.Stands.{leaves_after}
 use Rattle.up_object.proofs.Waits.{both_room}
-use Rattle.up_object.proofs.Ending.{begins, unopened, frames_begin}
+use Rattle.up_object.proofs.CallEnds.{begins, unopened, frames_begin}
 use Rattle.up_object.proofs.parts.open_asking.Goals as goal
 
 pub invariant_of-result : goal.invariant_of-result

@@ -1,4 +1,4 @@
-use Rattle.std.proofs.Common.{◌≡◌, ◌<◌, arith}
+use Rattle.std.proofs.Common.{arith}
 use Rattle.up_pages.specs.Pages.{size_of}
 use Rattle.up_object.proofs.Seats.{fewer_items}
 use Rattle.up_object.proofs.seating.seat_at.Goals as goal

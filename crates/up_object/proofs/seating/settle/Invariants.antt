@@ -1,6 +1,5 @@
-use Rattle.std.proofs.Common.{◌≡◌, ℕ, ◌≤◌, ◌&&◌, cond, None}
+use Rattle.std.proofs.Common.{◌≡◌, ℕ, ◌&&◌, cond}
 use Rattle.std.specs.Prelude.{nat_le, nat_lt}
-use Rattle.up_pages.specs.Pages.{size_of}
 use Rattle.up_queues.specs.Queue.{find_page}
 use Rattle.up_object.specs.Stands.{item_of}
 use Rattle.up_object.proofs.seating.settle.Given as goal

@@ -1,7 +1,7 @@
-use Rattle.std.proofs.Common.{◌≡◌, ℕ, ◌+◌, ◌-◌, ◌<◌, ◌≤◌, ◌∷◌, sym, subst, refl, ap, ◌∙◌, arith, length}
+use Rattle.std.proofs.Common.{◌≡◌, ℕ, ◌-◌, ◌<◌, ◌≤◌, ◌∷◌, sym, subst, ◌∙◌}
 use Rattle.up_model.specs.Size.{size}
 use Rattle.up_object.specs.Whole.{Whole}
-use Rattle.up_object.proofs.Ending.{frames_none}
+use Rattle.up_object.proofs.CallEnds.{frames_none}
 use Rattle.up_object.proofs.Grown.{grows, still_stands, seen_grown}
 use Rattle.up_object.proofs.sizing.open_growing.Goals as goal
 

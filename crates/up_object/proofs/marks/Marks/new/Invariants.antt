@@ -1,4 +1,4 @@
-use Rattle.std.proofs.Common.{◌≡◌, ℕ, ◌+◌, length, vec_capacity}
+use Rattle.std.proofs.Common.{◌≡◌, ℕ, length, vec_capacity}
 use Rattle.up_object.specs.Parts.{no_mark, mark_at}
 use Rattle.up_object.proofs.marks.Marks.new.Given as goal
 

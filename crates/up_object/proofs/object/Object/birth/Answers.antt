@@ -1,9 +1,9 @@
-use Rattle.std.proofs.Common.{◌≡◌, ◌≤◌, ◌+◌, refl, ap, ◌∙◌, arith, length}
+use Rattle.std.proofs.Common.{◌≤◌, ◌+◌, refl, ap, ◌∙◌, arith}
 use Rattle.up_bank.specs.Standing.{BankId}
 use Rattle.up_model.specs.Written.{Written}
 use Rattle.up_object.specs.Numbers.{Numbered}
 use Rattle.up_object.proofs.Waits.{first_asks}
-use Rattle.up_object.proofs.Ending.{first_stands}
+use Rattle.up_object.proofs.CallEnds.{first_stands}
 use Rattle.up_object.proofs.object.Object.birth.Goals as goal
 
 pub invariant_of-result : goal.invariant_of-result

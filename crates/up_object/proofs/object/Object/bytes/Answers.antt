@@ -8,7 +8,7 @@ use Rattle.up_model.specs.Value.{there, bytes_from}
 use Rattle.up_model.specs.Looks.{is_present}
 use Rattle.up_object.specs.Whole.{Whole}
 use Rattle.up_object.specs.Parts.{shown}
-use Rattle.up_object.proofs.Turning.{blank_content}
+use Rattle.up_object.proofs.PageAtMark.{blank_content}
 use Rattle.up_object.proofs.Contents.{bytes_read, zeros_read, content_of, present_is, piece_fits}
 use Rattle.up_object.proofs.object.Object.bytes.Goals as goal
 

@@ -3,8 +3,8 @@ use Rattle.up_bank.specs.Standing.{Held as Frame}
 use Rattle.up_pages.specs.Pages.{held_by, page_at, size_of}
 use Rattle.up_object.specs.Change.{AllOwn}
 use Rattle.up_object.specs.Whole.{Whole, held}
-use Rattle.up_object.proofs.Ending.{held_is}
-use Rattle.up_object.proofs.Owning.{own_down}
+use Rattle.up_object.proofs.CallEnds.{held_is}
+use Rattle.up_object.proofs.OwnFrames.{own_down}
 use Rattle.up_object.proofs.object.Object.end.Goals as goal
 
 pub returns-clause-frames : goal.returns-clause-frames

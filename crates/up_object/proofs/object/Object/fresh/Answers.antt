@@ -1,4 +1,4 @@
-use Rattle.std.proofs.Common.{◌≡◌, IfOk, not, subst, ap, sym, ◌∙◌}
+use Rattle.std.proofs.Common.{◌≡◌, IfOk, not, subst, sym, ◌∙◌}
 use Rattle.std.proofs.lemmas.Result.{IfOk-weaker}
 use Rattle.up_span.specs.Runs.{runs}
 use Rattle.up_asks.specs.Asking.{fresh}

@@ -1,6 +1,6 @@
-use Rattle.std.proofs.Common.{◌≡◌, ap, sym, ◌∙◌, nat_lt}
+use Rattle.std.proofs.Common.{ap, sym, ◌∙◌, nat_lt}
 use Rattle.up_model.specs.Numbers.{has_begun}
-use Rattle.up_model.proofs.Numbering.{begun_below}
+use Rattle.up_model.proofs.NumberLaws.{begun_below}
 use Rattle.up_object.specs.Whole.{Whole}
 use Rattle.up_object.proofs.object.Object.has_begun.Goals as goal
 

@@ -1,7 +1,7 @@
-use Rattle.std.proofs.Common.{◌≡◌, sym, subst, ap, ◌∙◌, true, false, is_some, Some}
+use Rattle.std.proofs.Common.{◌≡◌, sym, subst, ap, ◌∙◌, true, false, is_some}
 use Rattle.up_model.specs.Attempts.{parked}
 use Rattle.up_model.specs.Tickets.{owner, spent}
-use Rattle.up_model.proofs.Waiting.{parked_within}
+use Rattle.up_model.proofs.WaitLaws.{parked_within}
 use Rattle.up_object.specs.Asks.{access_of}
 use Rattle.up_object.specs.Whole.{Whole}
 use Rattle.up_object.proofs.Waiters.{held_is, access_is, waiter_whole}

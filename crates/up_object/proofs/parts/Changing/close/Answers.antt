@@ -1,14 +1,12 @@
-use Rattle.std.proofs.Common.{◌≡◌, ℕ, ◌≤◌, ◌&&◌, false, true, ◌∷◌, sym, subst, ap, ◌∙◌, arith, nat_le, nat_lt, refl}
-use Rattle.up_bank.specs.declared.kind.FrameKind.{FrameKind}
-use Rattle.up_pages.specs.Pages.{size_of, held_by}
+use Rattle.std.proofs.Common.{◌≡◌, ℕ, ◌&&◌, false, true, ◌∷◌, sym, subst, ap, ◌∙◌, arith, nat_le, nat_lt, refl}
+use Rattle.up_pages.specs.Pages.{held_by}
 use Rattle.up_model.specs.Written.{Written}
-use Rattle.up_model.specs.Size.{size}
 use Rattle.up_model.specs.Concerns.{concerns, keeps_asks, keeps_spent, keeps_roles, keeps_modified, keeps_size}
 use Rattle.up_model.specs.Changes.{IsDue}
 use Rattle.up_object.specs.Change.{Change, Rests, is_done, AllOwn}
 use Rattle.up_object.specs.Whole.{held}
 use Rattle.up_object.proofs.Seats.{seat_beyond}
-use Rattle.up_object.proofs.Ending.{closed, size_end, pages_end, held_is, frames_end, are_own}
+use Rattle.up_object.proofs.CallEnds.{closed, size_end, pages_end, held_is, frames_end, are_own}
 use Rattle.up_object.proofs.parts.Changing.close.Goals as goal
 
 pub settle-requires-clause-beyond : goal.settle-requires-clause-beyond

@@ -1,4 +1,4 @@
-use Rattle.std.proofs.Common.{◌≡◌, ℕ, ◌<◌, ◌≤◌, sym, subst}
+use Rattle.std.proofs.Common.{ℕ, ◌<◌, ◌≤◌, sym, subst}
 use Rattle.up_model.specs.Changes.{Vanishes}
 use Rattle.up_object.specs.Change.{Change}
 use Rattle.up_object.proofs.parts.Changing.close_cut.Goals as goal

@@ -1,17 +1,15 @@
-use Rattle.std.proofs.Common.{◌≡◌, ℕ, ◌<◌, ◌≤◌, ◌&&◌, false, true, ◌∷◌, sym, subst, ap, ◌∙◌, arith, nat_le, nat_lt, refl}
+use Rattle.std.proofs.Common.{◌≡◌, ℕ, ◌<◌, ◌≤◌, ◌&&◌, false, true, ◌∷◌, sym, subst, ap, ◌∙◌, arith, nat_le, nat_lt}
 use Rattle.up_num.specs.declared.answers.AskKind.TheVariants.{Dirty as DirtyAsk}
-use Rattle.up_pages.specs.Pages.{size_of, held_by}
+use Rattle.up_pages.specs.Pages.{held_by}
 use Rattle.up_model.specs.Written.{Written}
 use Rattle.up_model.specs.Size.{size}
 use Rattle.up_model.specs.Asks.{asked}
 use Rattle.up_model.specs.Concerns.{concerns, keeps_asks, keeps_spent, keeps_roles, keeps_modified}
 use Rattle.up_model.specs.Changes.{Vanishes, IsDue}
-use Rattle.up_object.specs.Parts.{PageStands, mark_at}
-use Rattle.up_object.specs.Change.{Change, is_done, AllOwn}
+use Rattle.up_object.specs.Change.{Change, AllOwn}
 use Rattle.up_object.specs.Whole.{held}
-use Rattle.up_pages.specs.Pages.{page_at}
 use Rattle.up_object.proofs.Seats.{seat_beyond}
-use Rattle.up_object.proofs.Ending.{closed, pages_end, held_is, frames_end, are_own}
+use Rattle.up_object.proofs.CallEnds.{closed, pages_end, held_is, frames_end, are_own}
 use Rattle.up_object.proofs.Grown.{absent_from, rests_outside, keeps_outside}
 use Rattle.up_object.proofs.parts.Changing.close_gone.Goals as goal
 

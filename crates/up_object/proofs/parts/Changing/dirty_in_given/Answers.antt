@@ -1,11 +1,11 @@
-use Rattle.std.proofs.Common.{◌≡◌, ℕ, ◌<◌, sym, subst, ap, ◌∙◌, arith, true, ◌++◌}
+use Rattle.std.proofs.Common.{◌≡◌, ◌<◌, sym, subst, ap, ◌∙◌, arith, true, ◌++◌}
 use Rattle.std.specs.Prelude.{option_to_list}
 use Rattle.up_model.specs.Changes as changes
 use Rattle.up_model.specs.Looks as looks
 use Rattle.up_object.specs.Change.{Change}
 use Rattle.up_object.specs.Parts.{is_loan}
 use Rattle.up_pages.specs.Pages.{page_at}
-use Rattle.up_object.proofs.Turning.{turned, at_mark, stock_used, given_bank, steps, dirty_given}
+use Rattle.up_object.proofs.PageAtMark.{turned, at_mark, stock_used, given_bank, steps, dirty_given}
 use Rattle.up_object.proofs.parts.Changing.dirty_in_given.Goals as goal
 
 pub invariant_of-self : goal.invariant_of-self

@@ -1,10 +1,10 @@
-use Rattle.std.proofs.Common.{◌≡◌, ℕ, ◌<◌, sym, subst, ap, ◌∙◌, arith, false}
+use Rattle.std.proofs.Common.{◌≡◌, ◌<◌, sym, subst, ◌∙◌, arith, false}
 use Rattle.up_model.specs.Changes as changes
 use Rattle.up_model.specs.Looks as looks
 use Rattle.up_num.specs.declared.answers.PageState.TheVariants.{Dirty}
 use Rattle.up_object.specs.Change.{Change}
 use Rattle.up_pages.specs.Pages.{page_at, with_state}
-use Rattle.up_object.proofs.Turning.{turned, at_mark, own_puts, stock_next, steps, dirty_place}
+use Rattle.up_object.proofs.PageAtMark.{turned, at_mark, own_puts, stock_next, steps, dirty_place}
 use Rattle.up_object.proofs.parts.Changing.dirty_in_place.Goals as goal
 
 pub invariant_of-self : goal.invariant_of-self

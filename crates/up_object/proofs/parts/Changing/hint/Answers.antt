@@ -1,9 +1,8 @@
-use Rattle.std.proofs.Common.{◌≡◌, ℕ, ◌<◌, sym, subst, refl, ap, ◌∙◌, arith}
+use Rattle.std.proofs.Common.{◌<◌, sym, subst, refl, arith}
 use Rattle.up_model.specs.Changes as changes
 use Rattle.up_object.specs.Change.{Change}
-use Rattle.up_object.specs.Parts.{mark_at}
 use Rattle.up_pages.specs.Pages.{page_at}
-use Rattle.up_object.proofs.Turning.{turned, at_mark, stays_puts, stock_next, steps, hints_page}
+use Rattle.up_object.proofs.PageAtMark.{turned, at_mark, stays_puts, stock_next, steps, hints_page}
 use Rattle.up_object.proofs.parts.Changing.hint.Goals as goal
 
 pub invariant_of-self : goal.invariant_of-self

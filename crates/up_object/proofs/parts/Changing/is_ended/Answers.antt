@@ -3,13 +3,13 @@ use Rattle.up_model.specs.Deeds.{named_by}
 use Rattle.up_model.specs.Value.{begun_by}
 use Rattle.up_model.specs.States.{unclean}
 use Rattle.up_model.specs.Reply.{same_flag}
-use Rattle.up_model.proofs.Numbering.{counts_by_number}
+use Rattle.up_model.proofs.NumberLaws.{counts_by_number}
 use Rattle.up_pages.specs.Pages.{page_at, look_of as look_at}
 use Rattle.up_object.specs.Change.{Change}
 use Rattle.up_object.specs.Numbers.{ended_by}
 use Rattle.up_object.specs.Parts.{shown, mark_at}
 use Rattle.up_object.proofs.PageNumbers.{ended_is}
-use Rattle.up_object.proofs.Turning.{at_mark}
+use Rattle.up_object.proofs.PageAtMark.{at_mark}
 use Rattle.up_object.proofs.parts.Changing.is_ended.Goals as goal
 
 pub returns : goal.returns

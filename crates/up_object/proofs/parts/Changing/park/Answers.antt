@@ -1,9 +1,9 @@
-use Rattle.std.proofs.Common.{◌≡◌, ◌≤◌, ◌<◌, not, sym, subst, ap, ◌∙◌, true}
+use Rattle.std.proofs.Common.{◌≡◌, ◌<◌, not, sym, subst, ap, ◌∙◌, true}
 use Rattle.up_num.specs.Asks.{Ask}
 use Rattle.up_span.specs.Runs.{runs}
 use Rattle.up_model.specs.Asks.{asked}
 use Rattle.up_model.specs.Changes.{Parks}
-use Rattle.up_object.specs.Asks.{access_of, AskRoom}
+use Rattle.up_object.specs.Asks.{access_of}
 use Rattle.up_object.specs.Change.{Change}
 use Rattle.up_object.proofs.Waits.{asks_before, fresh_parts, each_room, parks_asks, answered}
 use Rattle.up_object.proofs.parts.Changing.park.Goals as goal

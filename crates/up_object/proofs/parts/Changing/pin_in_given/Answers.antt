@@ -1,14 +1,12 @@
-use Rattle.std.proofs.Common.{◌≡◌, ℕ, ◌<◌, ◌+◌, sym, subst, refl, ap, ◌∙◌, arith, true, false, length, None, ◌∷◌, ◌++◌}
+use Rattle.std.proofs.Common.{◌≡◌, ℕ, ◌<◌, ◌+◌, sym, subst, ap, ◌∙◌, arith, length, None, ◌∷◌, ◌++◌}
 use Rattle.std.specs.Prelude.{option_to_list}
 use Rattle.up_model.specs.Changes as changes
-use Rattle.up_model.specs.Looks as looks
 use Rattle.up_model.specs.Use.{newest_epoch}
-use Rattle.up_num.specs.declared.answers.PageState.TheVariants.{Dirty}
 use Rattle.up_object.specs.Change.{Change}
 use Rattle.up_object.specs.Parts.{mark_at, is_loan, shown}
 use Rattle.up_object.specs.Numbers.{bared}
 use Rattle.up_pages.specs.Pages.{page_at, look_of as look_at}
-use Rattle.up_object.proofs.Turning.{turned, at_mark, stays_puts, own_puts, twice_puts, stock_next, stock_back, stock_used, given_bank, steps, pin_given}
+use Rattle.up_object.proofs.PageAtMark.{turned, at_mark, stock_used, given_bank, steps, pin_given}
 use Rattle.up_object.proofs.parts.Changing.pin_in_given.Goals as goal
 
 pub invariant_of-self : goal.invariant_of-self

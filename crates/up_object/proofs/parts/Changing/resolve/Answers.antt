@@ -1,4 +1,4 @@
-use Rattle.std.proofs.Common.{◌≡◌, ◌≤◌, sym, subst, ap, ◌∙◌, true, length}
+use Rattle.std.proofs.Common.{◌≤◌, sym, subst, ap, ◌∙◌, true, length}
 use Rattle.up_asks.specs.Asking.{events_of}
 use Rattle.up_model.specs.Changes.{Happens}
 use Rattle.up_object.specs.Change.{Change}

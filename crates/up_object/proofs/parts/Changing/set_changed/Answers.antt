@@ -1,8 +1,8 @@
-use Rattle.std.proofs.Common.{◌≡◌, sym, subst, ap, ◌∙◌, false, true}
+use Rattle.std.proofs.Common.{sym, subst, ap, ◌∙◌}
 use Rattle.up_model.specs.Changes as changes
-use Rattle.up_model.specs.Concerns.{keeps_roles, keeps_modified}
+use Rattle.up_model.specs.Concerns.{keeps_roles}
 use Rattle.up_object.specs.Change.{Change}
-use Rattle.up_object.proofs.Tallying.{tallies, changed_tally}
+use Rattle.up_object.proofs.Tallies.{tallies, changed_tally}
 use Rattle.up_object.proofs.parts.Changing.set_changed.Goals as goal
 
 pub invariant_of-self : goal.invariant_of-self

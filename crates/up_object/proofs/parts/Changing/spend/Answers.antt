@@ -1,8 +1,7 @@
-use Rattle.std.proofs.Common.{◌≡◌, sym, subst, ap, ◌∙◌, true, false, is_some, Some}
+use Rattle.std.proofs.Common.{◌≡◌, sym, subst, ap, ◌∙◌, true, false, is_some}
 use Rattle.up_model.specs.Attempts.{parked}
 use Rattle.up_model.specs.Tickets.{owner, spent}
 use Rattle.up_model.specs.Changes.{Spends}
-use Rattle.up_object.specs.Asks.{access_of}
 use Rattle.up_object.specs.Change.{Change}
 use Rattle.up_object.proofs.Waits.{asks_rest, asks_after, spends_asks, answered}
 use Rattle.up_object.proofs.Waiters.{held_is, access_is}

@@ -1,4 +1,4 @@
-use Rattle.std.proofs.Common.{◌≡◌, sym, subst, ap, ◌∙◌, true}
+use Rattle.std.proofs.Common.{sym, subst, ap, ◌∙◌, true}
 use Rattle.up_model.specs.Changes.{TakesPacket}
 use Rattle.up_object.specs.Change.{Change}
 use Rattle.up_object.proofs.Waits.{asks_before, takes_one, takes_asks, answered}

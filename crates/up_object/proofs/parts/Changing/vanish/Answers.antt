@@ -1,11 +1,11 @@
-use Rattle.std.proofs.Common.{◌≡◌, ℕ, ◌<◌, sym, subst, refl, ap, ◌∙◌, arith, ◌++◌}
+use Rattle.std.proofs.Common.{ℕ, ◌<◌, sym, subst, ap, ◌∙◌, arith, ◌++◌}
 use Rattle.std.specs.Prelude.{option_to_list}
 use Rattle.up_model.specs.Changes as changes
 use Rattle.up_object.specs.Change.{Change}
 use Rattle.up_pages.specs.Pages.{page_at, look_of as look_at}
 use Rattle.up_object.specs.Parts.{shown, mark_at}
 use Rattle.up_object.specs.Numbers.{bared}
-use Rattle.up_object.proofs.Turning.{turned, at_mark, stock_back, steps}
+use Rattle.up_object.proofs.PageAtMark.{turned, at_mark, stock_back, steps}
 use Rattle.up_object.proofs.Grown.{vanishes_page}
 use Rattle.up_object.proofs.parts.Changing.vanish.Goals as goal
 

@@ -1,4 +1,4 @@
-use Rattle.std.proofs.Common.{◌≡◌, ℕ, ◌<◌, ◌≤◌, sym, subst, ap, arith}
+use Rattle.std.proofs.Common.{sym, subst, ap, arith}
 use Rattle.up_model.specs.Changes.{Vanishes}
 use Rattle.up_object.specs.Change.{Change}
 use Rattle.up_object.proofs.parts.Changing.vanish_all.Goals as goal

@@ -1,13 +1,11 @@
-use Rattle.std.proofs.Common.{◌≡◌, ℕ, ◌<◌, sym, subst, refl, ap, ◌∙◌, arith, true, false, length, None, ◌∷◌, ◌++◌}
-use Rattle.std.specs.Prelude.{option_to_list}
+use Rattle.std.proofs.Common.{◌≡◌, ◌<◌, sym, subst, ◌∙◌, arith, false, length, None, ◌∷◌}
 use Rattle.up_model.specs.Changes as changes
 use Rattle.up_model.specs.Looks as looks
 use Rattle.up_model.specs.Use.{newest_epoch}
 use Rattle.up_num.specs.declared.answers.PageState.TheVariants.{Dirty}
 use Rattle.up_object.specs.Change.{Change}
-use Rattle.up_object.specs.Parts.{mark_at, is_loan}
 use Rattle.up_pages.specs.Pages.{page_at, overwritten, with_state}
-use Rattle.up_object.proofs.Turning.{turned, at_mark, stays_puts, own_puts, twice_puts, stock_next, stock_back, stock_used, given_bank, steps, write_place}
+use Rattle.up_object.proofs.PageAtMark.{turned, at_mark, twice_puts, stock_next, steps, write_place}
 use Rattle.up_object.proofs.parts.Changing.write_in_place.Goals as goal
 
 pub invariant_of-self : goal.invariant_of-self

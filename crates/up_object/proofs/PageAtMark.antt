@@ -6,7 +6,7 @@ use Rattle.std.proofs.lemmas.Bool.{cases_lt}
 use Rattle.std.proofs.lemmas.Option.{slice_get-get_or, slice_get_past}
 use Rattle.std.specs.Prelude.{option_to_list}
 use Rattle.up_bank.specs.Bytes.{written}
-use Rattle.std.proofs.Common.{◌≡◌, inl, inr, take, drop, [], ◌++◌, ℕ, ◌+◌, ◌-◌, ◌*◌, ◌<◌, ◌≤◌, ◌==◌, ◌&&◌, Bool, true, false, cond, Option, Some, None, List, ◌∷◌, length, suc, get_or, refl, ap, sym, ◌∙◌, subst, arith, nat_le, nat_lt}
+use Rattle.std.proofs.Common.{◌≡◌, inl, inr, take, drop, [], ◌++◌, ℕ, ◌+◌, ◌-◌, ◌<◌, ◌≤◌, ◌==◌, ◌&&◌, Bool, true, false, cond, Option, Some, None, List, ◌∷◌, length, suc, get_or, refl, ap, sym, ◌∙◌, subst, arith, nat_le, nat_lt}
 use Rattle.std.proofs.lemmas.Bool.Decides.{nat_tests}
 use Rattle.up_bank.specs.Standing.{BankId, Held as Frame}
 use Rattle.up_pages.specs.declared.page.Page.{Page}
@@ -25,11 +25,10 @@ use Rattle.up_model.specs.Changes.{Turns, SamePage, SetsState, LetsDirty, Uses, 
 use Rattle.up_model.specs.declared.entry.Birth.{Birth}
 use Rattle.up_model.specs.declared.entry.Entry.{Entry}
 use Rattle.up_object.specs.declared.marks.Mark.{Mark}
-use Rattle.up_object.specs.declared.marks.Key.{Key}
 use Rattle.up_object.specs.Numbers.{is_zeros, bared}
 use Rattle.up_object.proofs.PageNumbers.{numbers_next, still_bare, own_bare}
 use Rattle.up_object.specs.Parts.{BankPair, bank_of, is_loan, PageStands, KeyStands, HasOwn, IsOwn, shown, state_shown, content, mark_at}
-use Rattle.up_object.specs.Change.{Done, Rest, RestStands, is_done, up_to, next_done, PagesStand, AllAre, AllOwn, FramesStand, ChangeStandsFor}
+use Rattle.up_object.specs.Change.{CallProgress, Rest, RestStands, up_to, next_done, PagesStand, AllAre, AllOwn, FramesStand, ChangeStandsFor}
 
 -- which pages are done, one page further
 done_at : (first m p : ℕ) → first ≤ m → (m == p) ≡ true → (nat_le first p && nat_lt p (m + 1)) ≡ true
@@ -45,13 +44,13 @@ same_number : (m p : ℕ) → (m == p) ≡ true → m ≡ p
 same_number m p is = grind (arith, nat_tests)
 
 -- at the mark the page stands for the journal before the entry
-pub at_mark : (banks : BankPair) (pages : PageMap) (marks : List Mark) (birth : Birth) (e : Entry) (h : List Entry) (done : Done) →
+pub at_mark : (banks : BankPair) (pages : PageMap) (marks : List Mark) (birth : Birth) (e : Entry) (h : List Entry) (done : CallProgress) →
     PagesStand banks pages marks birth e h done → PageStands banks (page_at pages done.mark) (mark_at marks done.mark) birth h done.mark
 at_mark banks pages marks birth e h done s =
     subst (λ b. PageStands banks (page_at pages done.mark) (mark_at marks done.mark) birth (up_to b e h) done.mark) (undone_at done.first done.mark) (s.each done.mark)
 
 -- one page further, over any new list of pages and marks that differ at the mark alone
-pub turned : (banks : BankPair) (pages pages' : PageMap) (marks marks' : List Mark) (page : Page) (mark : Mark) (birth : Birth) (e : Entry) (h : List Entry) (done : Done) →
+pub turned : (banks : BankPair) (pages pages' : PageMap) (marks marks' : List Mark) (page : Page) (mark : Mark) (birth : Birth) (e : Entry) (h : List Entry) (done : CallProgress) →
     PagesStand banks pages marks birth e h done → done.mark < done.limit →
     ((p : ℕ) → page_at pages' p ≡ cond (done.mark == p) page (page_at pages p)) → size_of pages' ≡ size_of pages → pages.spare ≤ pages'.spare + 1 →
     ((p : ℕ) → mark_at marks' p ≡ cond (done.mark == p) mark (mark_at marks p)) → length marks' ≡ length marks →
@@ -225,10 +224,10 @@ stays_puts f m p = elim (m == p) as (λ b. (m == p) ≡ b → f p ≡ cond b (f 
 ] refl
 
 -- frames stay, and the page's place for one is free
-pub stock_next : (banks : BankPair) (brings : FrameKind) (given back : Stock) (done : Done) → FramesStand banks brings given back done → FramesStand banks brings given back (next_done done)
+pub stock_next : (banks : BankPair) (brings : FrameKind) (given back : Stock) (done : CallProgress) → FramesStand banks brings given back done → FramesStand banks brings given back (next_done done)
 stock_next banks brings given back done s = record { given_own = s.given_own; back_own = s.back_own; room = let room = s.room in omega arith }
 
-rest_next : (rest : Rest) (pages : ℕ) (birth : Birth) (e : Entry) (h : List Entry) (done : Done) → RestStands rest pages birth e h done → RestStands rest pages birth e h (next_done done)
+rest_next : (rest : Rest) (pages : ℕ) (birth : Birth) (e : Entry) (h : List Entry) (done : CallProgress) → RestStands rest pages birth e h done → RestStands rest pages birth e h (next_done done)
 rest_next rest pages birth e h done s = record {
   queued = s.queued;
   wide = s.wide;
@@ -242,7 +241,7 @@ rest_next rest pages birth e h done s = record {
   place = s.place;
 }
 
-pub steps : (banks : BankPair) (pages pages' : PageMap) (marks marks' : List Mark) (brings : FrameKind) (given given' back back' : Stock) (rest : Rest) (birth : Birth) (e : Entry) (h : List Entry) (done : Done) →
+pub steps : (banks : BankPair) (pages pages' : PageMap) (marks marks' : List Mark) (brings : FrameKind) (given given' back back' : Stock) (rest : Rest) (birth : Birth) (e : Entry) (h : List Entry) (done : CallProgress) →
     ChangeStandsFor banks pages marks brings given back rest birth e h done → size_of pages' ≡ size_of pages → PagesStand banks pages' marks' birth e h (next_done done) → FramesStand banks brings given' back' (next_done done) →
     ChangeStandsFor banks pages' marks' brings given' back' rest birth e h (next_done done)
 steps banks pages pages' marks marks' brings given given' back back' rest birth e h done s same part stock = record {
@@ -278,7 +277,7 @@ one_at_most None = omega arith
 one_at_most (Some x) = omega arith
 
 -- a page's frame comes back
-pub stock_back : (banks : BankPair) (brings : FrameKind) (given back back' : Stock) (done : Done) (page : Page) → FramesStand banks brings given back done → HasOwn banks page →
+pub stock_back : (banks : BankPair) (brings : FrameKind) (given back back' : Stock) (done : CallProgress) (page : Page) → FramesStand banks brings given back done → HasOwn banks page →
     back'.items ≡ back.items ++ option_to_list (frame_of page) → back'.room ≡ back.room → FramesStand banks brings given back' (next_done done)
 stock_back banks brings given back back' done page s own items room =
     let few = one_at_most (frame_of page) in
@@ -294,7 +293,7 @@ are_parts bank [] frame all = (tt, all.0)
 are_parts bank (x ∷ xs) frame all = let rest = are_parts bank xs frame all.1 in ((all.0, rest.0), rest.1)
 
 -- a given frame is used, and a page's frame comes back
-pub stock_used : (banks : BankPair) (brings : FrameKind) (given given' back back' : Stock) (done : Done) (frame : Frame) (page : Page) → FramesStand banks brings given back done → HasOwn banks page →
+pub stock_used : (banks : BankPair) (brings : FrameKind) (given given' back back' : Stock) (done : CallProgress) (frame : Frame) (page : Page) → FramesStand banks brings given back done → HasOwn banks page →
     given.items ≡ given'.items ++ frame ∷ [] → back'.items ≡ back.items ++ option_to_list (frame_of page) → back'.room ≡ back.room → FramesStand banks brings given' back' (next_done done)
 stock_used banks brings given given' back back' done frame page s own taken items room =
     let few = one_at_most (frame_of page) in
@@ -307,7 +306,7 @@ stock_used banks brings given given' back back' done frame page s own taken item
     }
 
 -- the given frame is of the bank of its kind
-pub given_bank : (banks : BankPair) (brings : FrameKind) (given given' back : Stock) (done : Done) (frame : Frame) → FramesStand banks brings given back done → given.items ≡ given'.items ++ frame ∷ [] →
+pub given_bank : (banks : BankPair) (brings : FrameKind) (given given' back : Stock) (done : CallProgress) (frame : Frame) → FramesStand banks brings given back done → given.items ≡ given'.items ++ frame ∷ [] →
     frame.bank ≡ bank_of banks brings
 given_bank banks brings given given' back done frame s taken = (are_parts (bank_of banks brings) given'.items frame (subst (λ (xs : List Frame). AllAre (bank_of banks brings) xs) taken s.given_own)).1
 

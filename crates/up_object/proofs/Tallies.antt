@@ -1,12 +1,12 @@
 -- Who acts on an object, and whether it was changed, with the entry. And a leave's beginning.
-use Rattle.std.proofs.Common.{◌≡◌, ℕ, ◌+◌, ◌-◌, ◌<◌, ◌≤◌, Bool, true, false, cond, List, [], ◌∷◌, length, zero, suc, refl, ap, sym, ◌∙◌, subst, arith}
+use Rattle.std.proofs.Common.{◌≡◌, ℕ, ◌+◌, ◌-◌, ◌<◌, ◌≤◌, Bool, true, false, cond, List, [], ◌∷◌, length, zero, suc, refl, sym, ◌∙◌, subst, arith}
 use Rattle.up_bank.specs.declared.kind.FrameKind.{FrameKind}
 use Rattle.up_bank.specs.Standing.{BankId, Held as Frame}
 use Rattle.up_pages.specs.Frames.{Stock}
-use Rattle.up_pages.specs.Pages.{PageMap, size_of}
+use Rattle.up_pages.specs.Pages.{PageMap}
 use Rattle.up_asks.specs.Asking.{Asking, SameAsks}
 use Rattle.up_model.specs.Concerns.{keeps_roles, keeps_modified}
-use Rattle.up_model.specs.Changes.{SetsModified, Departs, CutsOff}
+use Rattle.up_model.specs.Changes.{SetsModified, Departs, SetsDetached}
 use Rattle.up_model.specs.declared.entry.Birth.{Birth}
 use Rattle.up_model.specs.declared.entry.Call.{Call}
 use Rattle.up_model.specs.declared.entry.Entry.{Entry}
@@ -15,16 +15,16 @@ use Rattle.up_object.specs.declared.marks.Mark.{Mark}
 use Rattle.up_object.specs.Parts.{BankPair}
 use Rattle.up_object.specs.Roles.{departed}
 use Rattle.up_object.specs.Stands.{Tally, TallyStands, is_leave, leaves_after}
-use Rattle.up_object.specs.Change.{Done, Rest, RestStands, up_to, PagesStand, AllAre, FramesStand, ChangeStandsFor}
+use Rattle.up_object.specs.Change.{CallProgress, Rest, up_to, AllAre, ChangeStandsFor}
 
 -- the tally is done, and nothing else
-abbrev pub tallied_done : Done → Done
+abbrev pub tallied_done : CallProgress → CallProgress
 tallied_done done = record done { tally = true }
 
 abbrev pub with_tally : Tally → Rest → Rest
 with_tally tally rest = record rest { tally = tally }
 
-pub tallies : (banks : BankPair) (pages : PageMap) (marks : List Mark) (brings : FrameKind) (given back : Stock) (rest : Rest) (tally : Tally) (birth : Birth) (e : Entry) (h : List Entry) (done : Done) →
+pub tallies : (banks : BankPair) (pages : PageMap) (marks : List Mark) (brings : FrameKind) (given back : Stock) (rest : Rest) (tally : Tally) (birth : Birth) (e : Entry) (h : List Entry) (done : CallProgress) →
     ChangeStandsFor banks pages marks brings given back rest birth e h done → TallyStands tally birth (e ∷ h) → ChangeStandsFor banks pages marks brings given back (with_tally tally rest) birth e h (tallied_done done)
 tallies banks pages marks brings given back rest tally birth e h done s t = record {
   legal = s.legal;
@@ -78,8 +78,8 @@ departed_tally tally birth e h false user s first departs unchanged = record {
   changed = s.changed ∙ sym (kept_modified birth e h unchanged);
 }
 
-pub cut_tally : (tally : Tally) (birth : Birth) (e : Entry) (h : List Entry) (done : Bool) → TallyStands tally birth (up_to done e h) → done ≡ false → CutsOff birth e h →
-    keeps_modified e ≡ true → TallyStands (record tally { cut = true }) birth (e ∷ h)
+pub cut_tally : (tally : Tally) (birth : Birth) (e : Entry) (h : List Entry) (done : Bool) → TallyStands tally birth (up_to done e h) → done ≡ false → SetsDetached birth e h →
+    keeps_modified e ≡ true → TallyStands (record tally { detached = true }) birth (e ∷ h)
 cut_tally tally birth e h true s first cuts unchanged = absurd cc
 cut_tally tally birth e h false s first cuts unchanged = record {
   acting = s.acting ∙ sym cuts.acting;

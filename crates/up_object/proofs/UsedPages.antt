@@ -9,7 +9,7 @@ use Rattle.up_model.specs.Order.{loose}
 use Rattle.up_model.specs.declared.entry.Birth.{Birth}
 use Rattle.up_model.specs.declared.entry.Entry.{Entry}
 use Rattle.up_model.proofs.Equations.{value_is, marked_is, value_none}
-use Rattle.up_model.proofs.Steps.{page_start}
+use Rattle.up_model.proofs.OneEntryMore.{page_start}
 use Rattle.up_model.proofs.Reclaiming.{loose_page}
 
 -- an entry that doesn't use a page leaves it such a page only where it was one: by whether it reads, writes, supplies, pins or blanks the

@@ -8,7 +8,7 @@ use Rattle.up_model.specs.Looks.{look_by, look_of, is_present, has_loan, lacks_o
 use Rattle.up_model.specs.Legal.{Legal}
 use Rattle.up_model.specs.declared.entry.Birth.{Birth}
 use Rattle.up_model.specs.declared.entry.Entry.{Entry}
-use Rattle.up_model.proofs.Resting.{loaned_page, loaned_not_plain}
+use Rattle.up_model.proofs.StateParts.{loaned_page, loaned_not_plain}
 
 present_by : (here mark rest run loan : Bool) → is_present (look_by here mark rest run loan) ≡ here
 present_by false m s b l = refl

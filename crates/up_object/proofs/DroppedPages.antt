@@ -22,21 +22,21 @@ use Rattle.up_model.specs.Concerns.{concerns, keeps_asks, keeps_spent, keeps_rol
 use Rattle.up_model.specs.Changes.{Goes, IsDue}
 use Rattle.up_model.specs.declared.entry.Birth.{Birth}
 use Rattle.up_model.specs.declared.entry.Entry.{Entry}
-use Rattle.up_model.proofs.Quiet.{untouched}
+use Rattle.up_model.proofs.UnconcernedPages.{untouched}
 use Rattle.up_model.proofs.Kept.{kept_asks, kept_size}
 use Rattle.up_asks.specs.Asking.{Asking}
 use Rattle.up_object.specs.declared.marks.Mark.{Mark}
-use Rattle.up_object.specs.Numbers.{Numbered, begin_in, bared, is_zeros}
+use Rattle.up_object.specs.Numbers.{Numbered, begin_in}
 use Rattle.up_object.proofs.PageNumbers.{zeros_is}
 use Rattle.up_object.proofs.BeginLists.{begins_next}
 use Rattle.up_object.specs.Parts.{BankPair, PageStands, HasOwn, mark_at, shown}
 use Rattle.up_object.specs.Stands.{Tally, seat, queued, leaves_after, leave_calls, StandsFor}
 use Rattle.up_object.specs.Change.{AllOwn}
 use Rattle.up_object.specs.Whole.{held}
-use Rattle.up_object.proofs.Turning.{drops_page, keeps_page, own_append, own_page, one_at_most}
+use Rattle.up_object.proofs.PageAtMark.{drops_page, keeps_page, own_append, own_page, one_at_most}
 use Rattle.up_object.proofs.Seats.{loose_is, seat_stays}
 use Rattle.up_object.proofs.Waits.{asks_end}
-use Rattle.up_object.proofs.Ending.{tally_end, leaves_end, less_few, held_is}
+use Rattle.up_object.proofs.CallEnds.{tally_end, leaves_end, less_few, held_is}
 
 -- a page that goes isn't loose
 seat_gone : (birth : Birth) (e : Entry) (h : List Entry) (p : ℕ) → Goes birth e h p → seat birth (e ∷ h) p ≡ None

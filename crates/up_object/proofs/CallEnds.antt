@@ -1,12 +1,11 @@
 -- The end of a call: all parts stand for the journal with its entry. And the beginning of one.
-use Rattle.std.proofs.Common.{◌≡◌, ℕ, ◌+◌, ◌-◌, ◌*◌, ◌<◌, ◌≤◌, ◌==◌, ◌&&◌, not, Bool, true, false, cond, Option, Some, None, List, [], ◌∷◌, ◌++◌, length, zero, suc, refl, ap, sym, ◌∙◌, subst, arith, nat_le, nat_lt}
+use Rattle.std.proofs.Common.{◌≡◌, ℕ, ◌+◌, ◌-◌, ◌*◌, ◌<◌, ◌≤◌, ◌&&◌, Bool, true, false, cond, None, List, [], ◌∷◌, ◌++◌, length, zero, suc, refl, ap, sym, ◌∙◌, subst, arith, nat_le, nat_lt}
 use Rattle.std.specs.Prelude.{max, option_to_list}
 use Rattle.std.proofs.lemmas.Bool.{and_parts}
 use Rattle.std.proofs.lemmas.Bool.Decides.{nat_tests}
-use Rattle.up_num.specs.declared.answers.AskKind.{AskKind}
 use Rattle.up_num.specs.declared.answers.AskKind.TheVariants.{Dirty as DirtyAsk}
 use Rattle.up_span.specs.Pages.{count_pages}
-use Rattle.up_bank.specs.Standing.{BankId, Held as Frame}
+use Rattle.up_bank.specs.Standing.{Held as Frame}
 use Rattle.up_bank.specs.declared.kind.FrameKind.{FrameKind}
 use Rattle.up_bank.specs.declared.kind.FrameKind.TheVariants.{Ordinary, Loaned}
 use Rattle.up_pages.specs.Frames.{Stock, count_kind, same_kind}
@@ -15,32 +14,29 @@ use Rattle.up_pages.specs.declared.page.Page.TheVariants.{Absent, Zero, Held as 
 use Rattle.up_pages.specs.Pages.{PageMap, page_at, size_of, held_by, is_held_by, look_of as look_at}
 use Rattle.up_queues.specs.Queue.{Queue, find_page}
 use Rattle.up_model.specs.Size.{size}
-use Rattle.up_model.specs.Asks.{asked}
-use Rattle.up_model.specs.Use.{newest_epoch}
-use Rattle.up_model.specs.Legal.{Legal}
 use Rattle.up_model.specs.Looks.{look_of}
 use Rattle.up_model.specs.Concerns.{concerns, keeps_asks, keeps_spent, keeps_roles, keeps_modified, keeps_size}
 use Rattle.up_model.specs.Changes.{IsDue}
 use Rattle.up_model.specs.declared.entry.Birth.{Birth}
 use Rattle.up_model.specs.declared.entry.Call.{Call}
 use Rattle.up_model.specs.declared.entry.Entry.{Entry}
-use Rattle.up_model.proofs.Quiet.{untouched}
+use Rattle.up_model.proofs.UnconcernedPages.{untouched}
 use Rattle.up_model.proofs.Kept.{kept_roles, kept_modified, kept_size}
 use Rattle.up_object.specs.declared.marks.Mark.{Mark}
 use Rattle.up_object.specs.Parts.{BankPair, bank_of, is_loan, PageStands, shown, no_mark, mark_at}
 use Rattle.up_asks.specs.Asking.{Asking, SameAsks}
 use Rattle.up_queues.specs.declared.queued.Queued.{Queued}
 use Rattle.up_model.proofs.Equations.{value_none}
-use Rattle.up_object.specs.Stands.{Tally, TallyStands, seat, item_of, reserved, leaves_after, is_leave, leave_calls, StandsFor}
+use Rattle.up_object.specs.Stands.{Tally, TallyStands, seat, item_of, leaves_after, is_leave, leave_calls, StandsFor}
 use Rattle.up_object.specs.Asks.{AsksStand}
 use Rattle.up_object.specs.declared.numbers.Begin.{Begin}
 use Rattle.up_object.specs.Numbers.{Numbered, BeginsStand, begin_in}
 use Rattle.up_object.proofs.BeginLists.{begins_next}
-use Rattle.up_object.specs.Change.{Done, Rest, RestStands, Counts, of_kind, counts_of, frames_in_all, is_done, up_to, PagesStand, FramesStand, AllAre, AllOwn, Rests, ChangeStandsFor}
+use Rattle.up_object.specs.Change.{CallProgress, Rest, Counts, of_kind, counts_of, frames_in_all, is_done, up_to, PagesStand, AllAre, AllOwn, Rests, ChangeStandsFor}
 use Rattle.up_object.specs.Whole.{Whole, held, is_framed_by, same_loan}
-use Rattle.up_object.proofs.Turning.{keeps_page, kind_given}
+use Rattle.up_object.proofs.PageAtMark.{keeps_page, kind_given}
 use Rattle.up_object.proofs.Waits.{asks_end, roomy_asks}
-use Rattle.up_object.proofs.Seats.{seat_is, seat_stays, seat_beyond}
+use Rattle.up_object.proofs.Seats.{seat_is, seat_stays}
 
 -- What wasn't changed is as before.
 
@@ -65,7 +61,7 @@ page_end : (banks : BankPair) (page : Page) (mark : Mark) (birth : Birth) (e : E
 page_end banks page mark birth e h p true s keeps = s
 page_end banks page mark birth e h p false s keeps = keeps_page banks page mark birth e h p s (untouched birth e h p (keeps refl))
 
-pub pages_end : (banks : BankPair) (pages : PageMap) (marks : List Mark) (birth : Birth) (e : Entry) (h : List Entry) (done : Done) → PagesStand banks pages marks birth e h done →
+pub pages_end : (banks : BankPair) (pages : PageMap) (marks : List Mark) (birth : Birth) (e : Entry) (h : List Entry) (done : CallProgress) → PagesStand banks pages marks birth e h done →
     ((p : ℕ) → is_done done p ≡ false → concerns birth h e p ≡ false) → (p : ℕ) → PageStands banks (page_at pages p) (mark_at marks p) birth (e ∷ h) p
 pages_end banks pages marks birth e h done s keeps p = page_end banks (page_at pages p) (mark_at marks p) birth e h p (is_done done p) (s.each p) (keeps p)
 
@@ -75,7 +71,7 @@ leaves_end call a n = elim (is_leave call) as (λ b. cond b (a - n - 1) (a - n) 
   | false ↦ refl
 ]
 
-seat_end : (banks : BankPair) (pages : PageMap) (marks : List Mark) (rest : Rest) (birth : Birth) (e : Entry) (h : List Entry) (done : Done) (p : ℕ) (within : Bool) →
+seat_end : (banks : BankPair) (pages : PageMap) (marks : List Mark) (rest : Rest) (birth : Birth) (e : Entry) (h : List Entry) (done : CallProgress) (p : ℕ) (within : Bool) →
     ((q : ℕ) → PageStands banks (page_at pages q) (mark_at marks q) birth (e ∷ h) q) → AsksStand rest.asks birth (e ∷ h) → find_page rest.queue.items p ≡ seat birth h p →
     ((q : ℕ) → is_done done q ≡ false → concerns birth h e q ≡ false) → (within ≡ false → Rests birth e h done p) →
     cond within (item_of pages marks rest.asks p) (find_page rest.queue.items p) ≡ seat birth (e ∷ h) p
@@ -92,7 +88,7 @@ pub less_few : (call : Call) (left had : ℕ) → left ≡ leaves_after call had
 less_few call left had is few = subst (λ (n : ℕ). n ≤ 128) (sym is) (fewer (is_leave call) had few)
 
 -- an object at the end of a call, after absent pages past its size were taken off
-pub closed : (banks : BankPair) (pages pages' : PageMap) (marks : List Mark) (brings : FrameKind) (given back : Stock) (rest : Rest) (birth : Birth) (e : Entry) (h h' : List Entry) (done : Done) (from to : ℕ)
+pub closed : (banks : BankPair) (pages pages' : PageMap) (marks : List Mark) (brings : FrameKind) (given back : Stock) (rest : Rest) (birth : Birth) (e : Entry) (h h' : List Entry) (done : CallProgress) (from to : ℕ)
     (queue' : Queue) (numbers' : Numbered) (newest' leaves' spare' : ℕ) → ChangeStandsFor banks pages marks brings given back rest birth e h done →
     ((p : ℕ) → page_at pages' p ≡ page_at pages p) → size_of pages' ≡ size birth (e ∷ h) → size_of pages' ≤ size_of pages →
     ((p : ℕ) → is_done done p ≡ false → concerns birth h e p ≡ false) → ((p : ℕ) → (nat_le from p && nat_lt p to) ≡ false → Rests birth e h done p) →
@@ -276,7 +272,7 @@ no_leaves n = omega arith
 
 pub first_stands : (banks : BankPair) (pages : PageMap) (marks : List Mark) (queue : Queue) (asking : Asking) (tally : Tally) (numbers : Numbered) (leaves spare : ℕ) (birth : Birth) (h : List Entry) →
     (banks.ordinary.kind ≡ Ordinary) × (banks.loaned.kind ≡ Loaned) → h ≡ [] → size_of pages ≡ birth.pages → ((p : ℕ) → page_at pages p ≡ Absent) → length marks ≡ birth.pages → ((p : ℕ) → mark_at marks p ≡ no_mark) →
-    queue.items ≡ [] → birth.pages ≤ queue.room → AsksStand asking birth [] → tally ≡ record { users = birth.users; pagers = birth.pagers; cut = false; modified = false } → numbers.begins ≡ [] → leaves ≡ birth.users + birth.pagers → leaves ≤ 128 → leaves ≤ spare →
+    queue.items ≡ [] → birth.pages ≤ queue.room → AsksStand asking birth [] → tally ≡ record { users = birth.users; pagers = birth.pagers; detached = false; modified = false } → numbers.begins ≡ [] → leaves ≡ birth.users + birth.pagers → leaves ≤ 128 → leaves ≤ spare →
     StandsFor banks pages marks queue asking tally numbers 0 leaves spare birth h
 first_stands banks pages marks queue asking tally numbers leaves spare birth h kinds none sized gone marked bare empty wide unasked counted unbegun reserve few room = rw (none, counted) (record {
   legal = tt;

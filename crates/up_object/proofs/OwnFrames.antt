@@ -5,7 +5,7 @@ use Rattle.up_pages.specs.declared.page.Page.{Page}
 use Rattle.up_pages.specs.Pages.{frame_of, frames_down}
 use Rattle.up_object.specs.Parts.{BankPair, HasOwn}
 use Rattle.up_object.specs.Change.{AllOwn}
-use Rattle.up_object.proofs.Turning.{own_append, own_page}
+use Rattle.up_object.proofs.PageAtMark.{own_append, own_page}
 
 pub own_down : (banks : BankPair) (page : ℕ → Page) (first n : ℕ) → ((p : ℕ) → HasOwn banks (page p)) → AllOwn banks (frames_down page first n)
 own_down banks page first zero own = tt

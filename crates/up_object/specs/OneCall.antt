@@ -1,9 +1,7 @@
 -- The frames that a call is handed, and what a call by value makes of an object.
-use Rattle.std.specs.Prelude.{◌≡◌, ℕ, ◌+◌, ◌==◌, Bool, cond, Option, Some, None, List, [], length, Result, IfOk, IfErr, OnOk, OnErr}
+use Rattle.std.specs.Prelude.{◌≡◌, ℕ, ◌+◌, ◌==◌, cond, Option, Some, None, List, [], length, Result, IfOk, IfErr, OnOk, OnErr}
 use Rattle.up_bank.specs.Standing.{Held as Frame}
-use Rattle.up_bank.specs.declared.kind.FrameKind.{FrameKind}
-use Rattle.up_pages.specs.Frames.{Stock, count_kind}
-use Rattle.up_model.specs.Reply.{reply}
+use Rattle.up_pages.specs.Frames.{Stock}
 use Rattle.up_model.specs.declared.entry.Brought.{Brought}
 use Rattle.up_model.specs.declared.entry.Brought.TheVariants as brought
 use Rattle.up_model.specs.declared.entry.Call.{Call}
@@ -15,7 +13,8 @@ use Rattle.up_object.specs.declared.step.Declined.{Declined}
 use Rattle.up_object.specs.declared.step.Declined.TheVariants.{Refused, Needs}
 use Rattle.up_object.specs.declared.step.Stepped.{Stepped}
 use Rattle.up_object.specs.Change.{Change, AllOwn}
-use Rattle.up_object.specs.Whole.{Whole, after, held}
+use Rattle.up_object.specs.Whole.{Whole, after}
+use Rattle.up_object.specs.Answered.{RepliesAsDue, FramesBalance}
 
 -- so many frames, of which none are as if none were given yet
 abbrev pub brought_count : ℕ → Brought
@@ -46,13 +45,14 @@ or_declined (Some why) next = declined_reply why
 abbrev pub further : ℕ → Change → Change
 further n change = record change { done = record change.done { mark = change.done.mark + n } }
 
--- Where it answers, the object's journal has the call's entry more, the reply is the one that is due, and the frames of each kind
--- that come back and that the object holds are together those that were given and that it held before; all are of the object's
--- banks. After want of memory the object is as before, and the frames that were given come back.
-pub record Steps {E : Type 0} (old new : Whole) (step : Result Stepped (E × Stock)) (who epoch : ℕ) (call : Call) (given : List Frame) : Type 0 where
+-- Where it answers, the object's journal has the call's entry more, the reply is the one that is due, frames
+-- are in balance, and those that come back are of the object's banks. After want of memory the object is as
+-- before, and the frames that were given come back.
+pub record DoesCall {E : Type 0} (old new : Whole) (step : Result Stepped (E × Stock))
+    (who epoch : ℕ) (call : Call) (given : List Frame) : Type 0 where
   pub ok : OnOk step (new ≡ after old who epoch call)
-  pub due : IfOk step (λ s. s.reply ≡ reply old.birth old.journal who epoch call)
-  pub frames : IfOk step (λ s. (kind : FrameKind) → count_kind kind s.back.items + held new.birth new.journal kind ≡ count_kind kind given + held old.birth old.journal kind)
+  pub due : RepliesAsDue old who epoch call step
+  pub frames : FramesBalance old new given step
   pub own : IfOk step (λ s. AllOwn old.banks s.back.items)
   pub err : OnErr step (new ≡ old)
   pub back : IfErr step (λ failed. failed.1.items ≡ given)

@@ -7,13 +7,13 @@ use Rattle.up_model.specs.Concerns.{keeps_asks}
 use Rattle.up_model.proofs.Kept.{kept_asks}
 use Rattle.up_model.specs.declared.entry.Birth.{Birth}
 use Rattle.up_model.specs.declared.entry.Entry.{Entry}
-use Rattle.up_object.specs.Change.{Change, Done, Rests, next, next_using}
-use Rattle.up_object.specs.Steps.{further}
+use Rattle.up_object.specs.Change.{Change, CallProgress, Rests, next, next_using}
+use Rattle.up_object.specs.OneCall.{further}
 use Rattle.up_object.proofs.PageSteps.{count_step}
 use Rattle.up_span.specs.Pages.{count_pages}
 
 -- where the asked pages stay, the pages that aren't done keep their places
-pub rests_outside : (birth : Birth) (e : Entry) (h : List Entry) (done : Done) (from to p : ℕ) → done.first ≡ from → done.mark ≡ to → keeps_asks e ≡ true →
+pub rests_outside : (birth : Birth) (e : Entry) (h : List Entry) (done : CallProgress) (from to p : ℕ) → done.first ≡ from → done.mark ≡ to → keeps_asks e ≡ true →
     (nat_le from p && nat_lt p to) ≡ false → Rests birth e h done p
 rests_outside birth e h done from to p f m keeps out = record {
   undone = ap (λ n. nat_le n p && nat_lt p done.mark) f ∙ ap (λ n. nat_le from p && nat_lt p n) m ∙ out;
