@@ -1,7 +1,7 @@
 -- Pages of a range one by one: those that are counted, and the given frames that they use.
 use Rattle.std.proofs.Common.{◌≡◌, ℕ, ◌+◌, ◌-◌, ◌<◌, ◌≤◌, Bool, true, false, cond, zero, suc, ap, sym, ◌∙◌, arith}
 use Rattle.up_span.specs.Pages.{count_pages}
-use Rattle.up_pages.proofs.Counting.{count_last}
+use Rattle.up_pages.proofs.HeldCounts.{count_last}
 use Rattle.up_object.specs.Change.{Change, next_using}
 use Rattle.up_object.proofs.PageSteps.{count_step}
 use Rattle.up_clean.specs.Dirties.{lent, further_using}

@@ -1,5 +1,5 @@
 -- What an end makes of a page, and of those who wait for it.
-use Rattle.std.specs.Prelude.{ℕ, Bool, true, false, Option, Some, None}
+use Rattle.std.specs.Prelude.{ℕ, Bool, false, Option, Some, None}
 use Rattle.up_num.specs.declared.answers.AskKind.TheVariants.{Dirty as DirtyAsk}
 use Rattle.up_num.specs.declared.answers.Outcome.TheVariants.{Freed}
 use Rattle.up_asks.specs.declared.event.Event.{Event}

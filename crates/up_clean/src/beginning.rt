@@ -1,7 +1,5 @@
-ghost use Rattle.std.specs.Prelude.{◌≡◌, ℕ, ◌+◌, ◌<◌, [], true, IfOk, IfErr, OnOk, OnErr};
+ghost use Rattle.std.specs.Prelude.{◌≡◌, ◌+◌, ◌<◌, [], true, IfOk, IfErr, OnOk, OnErr};
 ghost use Rattle.up_num.specs.Span.{covers};
-ghost use Rattle.up_bank.specs.declared.kind.FrameKind.{FrameKind as FrameKindValue};
-ghost use Rattle.up_pages.specs.Frames.{count_kind};
 ghost use Rattle.up_model.specs.Attempts.{accepts};
 ghost use Rattle.up_model.specs.Size.{range_fits};
 ghost use Rattle.up_model.specs.Looks as looks;
@@ -10,8 +8,9 @@ ghost use Rattle.up_model.specs.Reply as replies;
 ghost use Rattle.up_model.specs.declared.entry.Call.TheVariants.{Begin};
 ghost use Rattle.up_object.specs.Parts.{shown};
 ghost use Rattle.up_object.specs.Change.{next, AllOwn};
-ghost use Rattle.up_object.specs.Whole.{after, held};
-ghost use Rattle.up_object.specs.Steps.{Steps, further};
+ghost use Rattle.up_object.specs.Whole.{after};
+ghost use Rattle.up_object.specs.Answered.{RepliesAsDue, FramesBalance};
+ghost use Rattle.up_object.specs.OneCall.{DoesCall, further};
 ghost use Rattle.up_clean.specs.Ends.{begun_reply};
 
 use core::mem::replace_with;
@@ -33,9 +32,9 @@ pub fn begin(
     range: PageRange,
     zero: bool,
 ) -> Step
-    ensures reply { IfOk result (λ s. s.reply ≡ replies.reply object.old.birth object.old.journal who epoch (Begin range zero)) }
+    ensures reply { RepliesAsDue object.old who epoch (Begin range zero) result }
     ensures object { OnOk result (object.new ≡ after object.old who epoch (Begin range zero)) }
-    ensures frames { IfOk result (λ s. (kind : FrameKindValue) → count_kind kind s.back.items + held object.new.birth object.new.journal kind ≡ held object.old.birth object.old.journal kind) }
+    ensures frames { FramesBalance object.old object.new [] result }
     ensures own { IfOk result (λ s. AllOwn object.old.banks s.back.items) }
     ensures same { OnErr result (object.new ≡ object.old) }
     ensures back { IfErr result (λ failed. failed.1.items ≡ []) }
@@ -70,7 +69,7 @@ impl Beginning {
 }
 
 fn begin_range(object: Object, beginning: Beginning) -> (Object, Step)
-    ensures { Steps object result.0 result.1 beginning.by.who beginning.by.epoch (Begin beginning.range beginning.zero) [] }
+    ensures { DoesCall object result.0 result.1 beginning.by.who beginning.by.epoch (Begin beginning.range beginning.zero) [] }
 {
     let alloc = beginning.alloc;
     if object.has_range(beginning.range) {
@@ -91,7 +90,7 @@ fn begin_range(object: Object, beginning: Beginning) -> (Object, Step)
 
 fn begin_within(object: Object, beginning: Beginning) -> (Object, Step)
     requires fits { range_fits object.birth object.journal beginning.range ≡ true }
-    ensures { Steps object result.0 result.1 beginning.by.who beginning.by.epoch (Begin beginning.range beginning.zero) [] }
+    ensures { DoesCall object result.0 result.1 beginning.by.who beginning.by.epoch (Begin beginning.range beginning.zero) [] }
 {
     let alloc = beginning.alloc;
     let first = first_of(beginning.range);

@@ -1,8 +1,6 @@
-ghost use Rattle.std.specs.Prelude.{◌≡◌, ℕ, ◌+◌, ◌-◌, ◌<◌, ◌≤◌, ◌^◌, [], ◌∷◌, true, false, length, IfOk, IfErr, OnOk, OnErr, IsNone};
+ghost use Rattle.std.specs.Prelude.{◌≡◌, ◌+◌, ◌-◌, ◌<◌, ◌≤◌, true, false, length, IfOk, IfErr, OnOk, OnErr, IsNone};
 ghost use Rattle.up_num.specs.Span.{covers};
-ghost use Rattle.up_bank.specs.declared.kind.FrameKind.{FrameKind as FrameKindValue};
 ghost use Rattle.up_bank.specs.declared.kind.FrameKind.TheVariants.{Ordinary as OrdinaryKind};
-ghost use Rattle.up_pages.specs.Frames.{count_kind};
 ghost use Rattle.up_model.specs.Attempts.{accepts};
 ghost use Rattle.up_model.specs.Size.{range_fits};
 ghost use Rattle.up_model.specs.Pins as pinning;
@@ -13,8 +11,9 @@ ghost use Rattle.up_model.specs.declared.entry.Reply.{Reply as ReplyValue};
 ghost use Rattle.up_model.specs.declared.entry.Reply.TheVariants.{Woke};
 ghost use Rattle.up_object.specs.Parts.{bank_of, is_loan};
 ghost use Rattle.up_object.specs.Change.{next_using, AllAre, AllOwn};
-ghost use Rattle.up_object.specs.Whole.{after, held};
-ghost use Rattle.up_object.specs.Steps.{Steps, brought_of, frames_of, or_declined, declined_reply};
+ghost use Rattle.up_object.specs.Whole.{after};
+ghost use Rattle.up_object.specs.Answered.{RepliesAsDue, FramesBalance};
+ghost use Rattle.up_object.specs.OneCall.{DoesCall, brought_of, frames_of, or_declined};
 ghost use Rattle.up_clean.specs.Dirties.{refused_or, or_refused, lent, freed, further_using};
 
 use core::mem::replace_with;
@@ -41,9 +40,10 @@ pub fn dirty(
     frames: FramesIn,
 ) -> Step
     requires given { AllAre (bank_of object.old.banks OrdinaryKind) (frames_of frames) }
-    ensures reply { IfOk result (λ s. s.reply ≡ replies.reply object.old.birth object.old.journal who epoch (DirtyCall range (brought_of frames))) }
-    ensures object { OnOk result (object.new ≡ after object.old who epoch (DirtyCall range (brought_of frames))) }
-    ensures frames { IfOk result (λ s. (kind : FrameKindValue) → count_kind kind s.back.items + held object.new.birth object.new.journal kind ≡ count_kind kind (frames_of frames) + held object.old.birth object.old.journal kind) }
+    ensures reply { RepliesAsDue object.old who epoch (DirtyCall range (brought_of frames)) result }
+    ensures object { OnOk result (object.new
+        ≡ after object.old who epoch (DirtyCall range (brought_of frames))) }
+    ensures frames { FramesBalance object.old object.new (frames_of frames) result }
     ensures own { IfOk result (λ s. AllOwn object.old.banks s.back.items) }
     ensures same { OnErr result (object.new ≡ object.old) }
     ensures back { IfErr result (λ failed. failed.1.items ≡ frames_of frames) }
@@ -83,7 +83,7 @@ fn dirty_range(object: Object, load: (Dirtying, Frames)) -> (Object, Step)
     requires given { AllAre (bank_of object.banks OrdinaryKind) load.1.items }
     requires brings { length load.1.items ≡ replies.frames_in load.0.brought }
     requires counts { replies.counts_frames load.0.brought ≡ true }
-    ensures { Steps object result.0 result.1 load.0.by.who load.0.by.epoch (DirtyCall load.0.range load.0.brought) load.1.items }
+    ensures { DoesCall object result.0 result.1 load.0.by.who load.0.by.epoch (DirtyCall load.0.range load.0.brought) load.1.items }
 {
     let (dirtying, given) = load;
     let Some(why) = obstacle(&object, dirtying.range, dirtying.brought) else {
@@ -139,10 +139,10 @@ fn dirty_woken(object: Object, dirtying: Dirtying, given: Frames) -> (Object, St
     requires counts { replies.counts_frames dirtying.brought ≡ true }
     requires fits { range_fits object.birth object.journal dirtying.range ≡ true }
     requires due { replies.reply object.birth object.journal dirtying.by.who dirtying.by.epoch (DirtyCall dirtying.range dirtying.brought) ≡ Woke (woken object.birth object.journal (DirtyCall dirtying.range dirtying.brought)) }
-    ensures { Steps object result.0 result.1 dirtying.by.who dirtying.by.epoch (DirtyCall dirtying.range dirtying.brought) given.items }
+    ensures { DoesCall object result.0 result.1 dirtying.by.who dirtying.by.epoch (DirtyCall dirtying.range dirtying.brought) given.items }
 {
     let alloc = dirtying.alloc;
-    let _ = object.size();
+    object.is_legal();
     let events = [freeing(dirtying.range)];
     let Ok(woke) = object.waking(alloc, &events) else {
         return (object, Err((Memory {}, given)));
@@ -178,7 +178,7 @@ fn dirty_freeing(
     requires fits { range_fits object.birth object.journal dirtying.range ≡ true }
     requires due { replies.reply object.birth object.journal dirtying.by.who dirtying.by.epoch (DirtyCall dirtying.range dirtying.brought) ≡ Woke woke }
     requires notes { noted ≡ woke }
-    ensures { Steps object result.0 result.1 dirtying.by.who dirtying.by.epoch (DirtyCall dirtying.range dirtying.brought) given.items }
+    ensures { DoesCall object result.0 result.1 dirtying.by.who dirtying.by.epoch (DirtyCall dirtying.range dirtying.brought) given.items }
 {
     let alloc = dirtying.alloc;
     let first = first_of(dirtying.range);

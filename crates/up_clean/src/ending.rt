@@ -1,8 +1,6 @@
-ghost use Rattle.std.specs.Prelude.{◌≡◌, ℕ, ◌+◌, ◌<◌, ◌≤◌, ◌^◌, [], ◌∷◌, ◌++◌, not, true, false, cond, length, map, is_some, IfOk, IfErr, OnOk, OnErr, IsNone, IsTrue};
+ghost use Rattle.std.specs.Prelude.{◌≡◌, ◌+◌, ◌<◌, ◌^◌, [], ◌∷◌, ◌++◌, not, true, false, cond, map, is_some, IfOk, IfErr, OnOk, OnErr, IsNone, IsTrue};
 ghost use Rattle.up_num.specs.Span.{covers};
 ghost use Rattle.up_span.specs.Pages.{list_pages};
-ghost use Rattle.up_bank.specs.declared.kind.FrameKind.{FrameKind as FrameKindValue};
-ghost use Rattle.up_pages.specs.Frames.{count_kind};
 ghost use Rattle.up_model.specs.Attempts.{accepts};
 ghost use Rattle.up_num.specs.declared.answers.Refusal.TheVariants.{Range as RangeRefusal};
 ghost use Rattle.up_model.specs.Size.{range_fits};
@@ -16,8 +14,9 @@ ghost use Rattle.up_model.specs.declared.entry.Reply.{Reply as ReplyValue};
 ghost use Rattle.up_model.specs.declared.entry.Reply.TheVariants.{Woke};
 ghost use Rattle.up_object.specs.Parts.{shown};
 ghost use Rattle.up_object.specs.Change.{next, AllOwn};
-ghost use Rattle.up_object.specs.Whole.{after, held};
-ghost use Rattle.up_object.specs.Steps.{Steps, further};
+ghost use Rattle.up_object.specs.Whole.{after};
+ghost use Rattle.up_object.specs.Answered.{RepliesAsDue, FramesBalance};
+ghost use Rattle.up_object.specs.OneCall.{DoesCall, further};
 ghost use Rattle.up_clean.specs.Ends.{goes_at_end, freed_page};
 ghost use Rattle.up_clean.specs.Dirties.{or_refused};
 
@@ -28,7 +27,9 @@ use up_bank::FrameKind;
 use up_model::{Call, Reply};
 use up_num::{AskKind, Memory, Outcome, PageNo, PageRange, PageState, Refusal, Woken};
 use up_object::parts::{Changing, open_asking};
-use up_object::{By, Declined, Object, Step, Stepped, count_of, decline, end_of, first_of};
+use up_object::{
+    By, Declined, Object, Step, Stepped, count_of, decline, end_of, first_of, has_end,
+};
 use up_pages::{Frames, Look};
 
 /// Ends the writeback of a range: what awaits that is clean, and zero pages that await it go. On a numbered object it names the begin that
@@ -44,9 +45,9 @@ pub fn end(
     of: Option<u64>,
 ) -> Step
     requires proper { IsTrue (replies.proper object.old.birth object.old.journal who (End range of)) }
-    ensures reply { IfOk result (λ s. s.reply ≡ replies.reply object.old.birth object.old.journal who epoch (End range of)) }
+    ensures reply { RepliesAsDue object.old who epoch (End range of) result }
     ensures object { OnOk result (object.new ≡ after object.old who epoch (End range of)) }
-    ensures frames { IfOk result (λ s. (kind : FrameKindValue) → count_kind kind s.back.items + held object.new.birth object.new.journal kind ≡ held object.old.birth object.old.journal kind) }
+    ensures frames { FramesBalance object.old object.new [] result }
     ensures own { IfOk result (λ s. AllOwn object.old.banks s.back.items) }
     ensures same { OnErr result (object.new ≡ object.old) }
     ensures back { IfErr result (λ failed. failed.1.items ≡ []) }
@@ -82,7 +83,7 @@ impl Ending {
 
 fn end_range(object: Object, ending: Ending) -> (Object, Step)
     requires proper { IsTrue (replies.proper object.birth object.journal ending.by.who (End ending.range ending.of)) }
-    ensures { Steps object result.0 result.1 ending.by.who ending.by.epoch (End ending.range ending.of) [] }
+    ensures { DoesCall object result.0 result.1 ending.by.who ending.by.epoch (End ending.range ending.of) [] }
 {
     let alloc = ending.alloc;
     let Some(why) = refusal(&object, ending.range, ending.of) else {
@@ -130,7 +131,7 @@ fn end_within(object: Object, ending: Ending) -> (Object, Step)
     requires proper { IsTrue (replies.proper object.birth object.journal ending.by.who (End ending.range ending.of)) }
     requires fits { range_fits object.birth object.journal ending.range ≡ true }
     requires due { replies.reply object.birth object.journal ending.by.who ending.by.epoch (End ending.range ending.of) ≡ Woke (woken object.birth object.journal (End ending.range ending.of)) }
-    ensures { Steps object result.0 result.1 ending.by.who ending.by.epoch (End ending.range ending.of) [] }
+    ensures { DoesCall object result.0 result.1 ending.by.who ending.by.epoch (End ending.range ending.of) [] }
 {
     let alloc = ending.alloc;
     let Ok(events) = freed_by_end(&object, alloc, ending.range, ending.of) else {
@@ -158,7 +159,7 @@ fn end_freeing(
     requires events { events.now.items ≡ map freed_page (list_pages (empty_at_end object.birth object.journal (named object.birth (End ending.range ending.of))) ending.range.first ending.range.count) }
     requires due { replies.reply object.birth object.journal ending.by.who ending.by.epoch (End ending.range ending.of) ≡ Woke woke }
     requires notes { noted ≡ woke }
-    ensures { Steps object result.0 result.1 ending.by.who ending.by.epoch (End ending.range ending.of) [] }
+    ensures { DoesCall object result.0 result.1 ending.by.who ending.by.epoch (End ending.range ending.of) [] }
 {
     let alloc = ending.alloc;
     let none = Frames::new(alloc);
@@ -199,7 +200,7 @@ fn freed_by_end(
     ensures { IfOk result (λ events. events.items ≡ map freed_page (list_pages (empty_at_end object.now.birth object.now.journal (named object.now.birth (End range of))) range.first range.count)) }
 {
     let first = first_of(range);
-    let _ = end_of(range);
+    has_end(range);
     let mut events = Vec::new(alloc);
     for place in 0..count_of(range) {
         let page = first + place;

@@ -1,5 +1,6 @@
 //! The calls of writeback on an object: which pages await it, leave to make pages dirty, its beginning and its end, and whether
 //! the object was changed. Each appends its one entry, with the reply that is due.
+//! Used through `up_core`, by `judge_journals`: its calls on worked journals.
 #![tactic(auto)]
 
 mod beginning;

@@ -1,12 +1,10 @@
-ghost use Rattle.std.specs.Prelude.{◌≡◌, ℕ, ◌+◌, [], true, IfOk, IfErr, OnOk, OnErr};
-ghost use Rattle.up_bank.specs.declared.kind.FrameKind.{FrameKind as FrameKindValue};
-ghost use Rattle.up_pages.specs.Frames.{count_kind};
+ghost use Rattle.std.specs.Prelude.{◌≡◌, [], true, IfOk, IfErr, OnOk, OnErr};
 ghost use Rattle.up_model.specs.Size.{range_fits};
-ghost use Rattle.up_model.specs.Reply as replies;
 ghost use Rattle.up_model.specs.declared.entry.Call.TheVariants.{Query};
 ghost use Rattle.up_object.specs.Change.{AllOwn};
-ghost use Rattle.up_object.specs.Whole.{after, held};
-ghost use Rattle.up_object.specs.Steps.{Steps};
+ghost use Rattle.up_object.specs.Whole.{after};
+ghost use Rattle.up_object.specs.Answered.{RepliesAsDue, FramesBalance};
+ghost use Rattle.up_object.specs.OneCall.{DoesCall};
 
 use core::mem::replace_with;
 use std::alloc::Global;
@@ -26,9 +24,9 @@ pub fn query(
     range: PageRange,
     room: u32,
 ) -> Step
-    ensures reply { IfOk result (λ s. s.reply ≡ replies.reply object.old.birth object.old.journal who epoch (Query range room)) }
+    ensures reply { RepliesAsDue object.old who epoch (Query range room) result }
     ensures object { OnOk result (object.new ≡ after object.old who epoch (Query range room)) }
-    ensures frames { IfOk result (λ s. (kind : FrameKindValue) → count_kind kind s.back.items + held object.new.birth object.new.journal kind ≡ held object.old.birth object.old.journal kind) }
+    ensures frames { FramesBalance object.old object.new [] result }
     ensures own { IfOk result (λ s. AllOwn object.old.banks s.back.items) }
     ensures same { OnErr result (object.new ≡ object.old) }
     ensures back { IfErr result (λ failed. failed.1.items ≡ []) }
@@ -63,7 +61,7 @@ impl Querying {
 }
 
 fn query_range(object: Object, querying: Querying) -> (Object, Step)
-    ensures { Steps object result.0 result.1 querying.by.who querying.by.epoch (Query querying.range querying.room) [] }
+    ensures { DoesCall object result.0 result.1 querying.by.who querying.by.epoch (Query querying.range querying.room) [] }
 {
     let alloc = querying.alloc;
     if object.has_range(querying.range) {
@@ -84,7 +82,7 @@ fn query_range(object: Object, querying: Querying) -> (Object, Step)
 
 fn query_within(object: Object, querying: Querying) -> (Object, Step)
     requires fits { range_fits object.birth object.journal querying.range ≡ true }
-    ensures { Steps object result.0 result.1 querying.by.who querying.by.epoch (Query querying.range querying.room) [] }
+    ensures { DoesCall object result.0 result.1 querying.by.who querying.by.epoch (Query querying.range querying.room) [] }
 {
     let alloc = querying.alloc;
     let none = Frames::new(alloc);

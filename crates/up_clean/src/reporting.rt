@@ -1,13 +1,11 @@
-ghost use Rattle.std.specs.Prelude.{◌≡◌, ℕ, ◌+◌, [], true, IfOk, IfErr, OnOk, OnErr};
-ghost use Rattle.up_bank.specs.declared.kind.FrameKind.{FrameKind as FrameKindValue};
-ghost use Rattle.up_pages.specs.Frames.{count_kind};
+ghost use Rattle.std.specs.Prelude.{◌≡◌, [], true, IfOk, IfErr, OnOk, OnErr};
 ghost use Rattle.up_model.specs.Modified.{modified};
-ghost use Rattle.up_model.specs.Reply as replies;
 ghost use Rattle.up_model.specs.declared.entry.Call.TheVariants.{Stats};
 ghost use Rattle.up_model.specs.declared.entry.Reply.TheVariants.{Modified as ModifiedReply};
 ghost use Rattle.up_object.specs.Change.{AllOwn};
-ghost use Rattle.up_object.specs.Whole.{after, held};
-ghost use Rattle.up_object.specs.Steps.{Steps};
+ghost use Rattle.up_object.specs.Whole.{after};
+ghost use Rattle.up_object.specs.Answered.{RepliesAsDue, FramesBalance};
+ghost use Rattle.up_object.specs.OneCall.{DoesCall};
 
 use core::mem::replace_with;
 use std::alloc::Global;
@@ -19,9 +17,9 @@ use up_pages::Frames;
 
 /// Tells whether the object was changed since its birth, or the last call with `reset`. It answers `Modified`.
 pub fn stats(object: &mut Object, alloc: Global, who: u32, epoch: u64, reset: bool) -> Step
-    ensures reply { IfOk result (λ s. s.reply ≡ replies.reply object.old.birth object.old.journal who epoch (Stats reset)) }
+    ensures reply { RepliesAsDue object.old who epoch (Stats reset) result }
     ensures object { OnOk result (object.new ≡ after object.old who epoch (Stats reset)) }
-    ensures frames { IfOk result (λ s. (kind : FrameKindValue) → count_kind kind s.back.items + held object.new.birth object.new.journal kind ≡ held object.old.birth object.old.journal kind) }
+    ensures frames { FramesBalance object.old object.new [] result }
     ensures own { IfOk result (λ s. AllOwn object.old.banks s.back.items) }
     ensures same { OnErr result (object.new ≡ object.old) }
     ensures back { IfErr result (λ failed. failed.1.items ≡ []) }
@@ -47,7 +45,7 @@ impl Reporting {
 }
 
 fn report(object: Object, reporting: Reporting) -> (Object, Step)
-    ensures { Steps object result.0 result.1 reporting.by.who reporting.by.epoch (Stats reporting.reset) [] }
+    ensures { DoesCall object result.0 result.1 reporting.by.who reporting.by.epoch (Stats reporting.reset) [] }
 {
     let alloc = reporting.alloc;
     let changed = object.changed();
@@ -70,7 +68,7 @@ fn report(object: Object, reporting: Reporting) -> (Object, Step)
 fn forget(object: Object, reporting: Reporting, changed: bool) -> (Object, Step)
     requires changed { changed ≡ modified object.birth object.journal }
     requires resets { reporting.reset ≡ true }
-    ensures { Steps object result.0 result.1 reporting.by.who reporting.by.epoch (Stats reporting.reset) [] }
+    ensures { DoesCall object result.0 result.1 reporting.by.who reporting.by.epoch (Stats reporting.reset) [] }
 {
     let alloc = reporting.alloc;
     let entry = reporting.entry(changed);

@@ -13,7 +13,7 @@ use Rattle.up_model.specs.declared.entry.Birth.{Birth}
 use Rattle.up_model.specs.declared.entry.Entry.{Entry}
 use Rattle.up_object.specs.declared.step.Stepped.{Stepped}
 use Rattle.up_object.specs.Whole.{Whole, held, is_framed_by}
-use Rattle.up_object.specs.Steps.{frames_of}
+use Rattle.up_object.specs.OneCall.{frames_of}
 use Rattle.up_core.specs.declared.requests.Request.{Request}
 use Rattle.up_core.specs.Requests.{handed, given_back}
 use Rattle.up_core.specs.Running.{Stopped, all_handed, all_back}

@@ -1,5 +1,5 @@
 -- A reply depends on what its own call brought only by whether it is a scan, and whether it is enough.
-use Rattle.std.proofs.Common.{◌≡◌, ℕ, ◌==◌, ◌&&◌, ◌||◌, not, Bool, true, false, cond, Option, Some, None, List, length, map, refl, ap, sym, subst, ◌∙◌, arith}
+use Rattle.std.proofs.Common.{◌≡◌, ℕ, ◌==◌, ◌&&◌, not, Bool, true, false, cond, Option, Some, None, List, length, refl, ap, sym, subst, ◌∙◌, arith}
 use Rattle.std.proofs.lemmas.Bool.Decides.{nat_tests}
 use Rattle.std.specs.Prelude.{nat_le, nat_lt, slice_get}
 use Rattle.up_num.specs.Span.{Span}
@@ -15,14 +15,14 @@ use Rattle.up_model.specs.Packets.{sent, taken}
 use Rattle.up_model.specs.Numbers.{next_number, has_begun}
 use Rattle.up_model.specs.Size.{size, range_fits, access_fits}
 use Rattle.up_model.specs.Value.{value, there}
-use Rattle.up_model.specs.States.{plain, unclean, dirty}
+use Rattle.up_model.specs.States.{unclean, dirty}
 use Rattle.up_model.specs.Pins.{loaned}
 use Rattle.up_model.specs.Pages.{page_number, first_page}
 use Rattle.up_model.specs.Tickets.{next_ticket, woken, outcome}
-use Rattle.up_model.specs.Reply.{proper, is_scan, frames_in, refuse_where, refuse_at, refuse_unbegun, with_frames, one_where, must_wait, touch_reply, access_reply, retry_reply, first_in, count_in, absent, missing, needs_own_frame, is_pinned, is_full_of_pins, loaned_firm, loaned_loose, pages_where, resize_reply, packet_reply, is_unpinned, reply}
+use Rattle.up_model.specs.Reply.{proper, is_scan, frames_in, refuse_where, refuse_at, refuse_unbegun, with_frames, one_where, must_wait, touch_reply, access_reply, retry_reply, first_in, count_in, absent, missing, needs_own_frame, is_pinned, is_full_of_pins, loaned_firm, pages_where, resize_reply, packet_reply, is_unpinned, reply}
 use Rattle.up_model.specs.declared.entry.Birth.{Birth}
 use Rattle.up_model.specs.declared.entry.Brought.{Brought}
-use Rattle.up_model.specs.declared.entry.Brought.TheVariants.{Nothing, Frames, Scanned}
+use Rattle.up_model.specs.declared.entry.Brought.TheVariants.{Nothing}
 use Rattle.up_model.specs.declared.entry.Call.{Call}
 use Rattle.up_model.specs.declared.entry.Call.TheVariants as calls
 use Rattle.up_model.specs.declared.entry.Entry.{Entry}
@@ -30,7 +30,7 @@ use Rattle.up_model.specs.declared.entry.Reply.{Reply}
 use Rattle.up_model.specs.declared.entry.Reply.TheVariants as answer
 use Rattle.up_core.specs.Groups.{bringing}
 use Rattle.up_core.specs.Requests.{takes_frames}
-use Rattle.up_core.specs.Enough.{all_bare, SameButFrames, frames_asked, needed, RepliesAskOnlyForEnough, EnoughSuffices, ProperWithoutFrames, BytesWithoutFrames}
+use Rattle.up_core.specs.Enough.{frames_asked, needed, RepliesAskOnlyForEnough, EnoughSuffices, ProperWithoutFrames, BytesWithoutFrames}
 use Rattle.up_core.proofs.SameReplies.{proper_same, reply_same}
 use Rattle.up_core.proofs.SamePages.{bytes_same}
 use Rattle.up_core.proofs.SameWaiters.{woken_brought}

@@ -10,8 +10,8 @@ use Rattle.up_object.specs.declared.step.Stepped.{Stepped}
 use Rattle.up_object.specs.Parts.{BankPair}
 use Rattle.up_object.specs.Change.{AllOwn}
 use Rattle.up_object.specs.Whole.{Whole, held}
-use Rattle.up_object.specs.Steps.{frames_of}
-use Rattle.up_object.proofs.Ending.{are_own}
+use Rattle.up_object.specs.OneCall.{frames_of}
+use Rattle.up_object.proofs.CallEnds.{are_own}
 use Rattle.up_core.specs.declared.requests.Request.{Request}
 use Rattle.up_core.specs.Requests.{AllKeep, kind_taken, after_all, handed, given_back, AllBackOwn, tried, done}
 use Rattle.up_core.specs.Running.{Stopped, Ended, all_handed, all_back}

@@ -8,7 +8,7 @@ use Rattle.up_pages.specs.Frames.{Stock, count_kind, same_kind}
 use Rattle.up_object.specs.declared.step.Stepped.{Stepped}
 use Rattle.up_object.specs.Parts.{BankPair}
 use Rattle.up_object.specs.Change.{AllOwn}
-use Rattle.up_object.proofs.Turning.{own_append}
+use Rattle.up_object.proofs.PageAtMark.{own_append}
 use Rattle.up_core.specs.Requests.{given_back, AllBackOwn}
 use Rattle.up_core.specs.Running.{all_back}
 use Rattle.up_core.proofs.Listed.{backs_parts}

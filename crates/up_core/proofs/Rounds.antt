@@ -4,7 +4,7 @@ use Rattle.std.proofs.lemmas.List.{length-append, reverse-append}
 use Rattle.up_bank.specs.Standing.{Held as Frame}
 use Rattle.up_object.specs.declared.step.Stepped.{Stepped}
 use Rattle.up_object.specs.Whole.{Whole}
-use Rattle.up_object.specs.Steps.{frames_of}
+use Rattle.up_object.specs.OneCall.{frames_of}
 use Rattle.up_core.specs.declared.requests.Request.{Request}
 use Rattle.up_core.specs.Running.{Stopped}
 use Rattle.up_core.proofs.Listed.{Going, Does, going_next, going_stops}

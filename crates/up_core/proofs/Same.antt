@@ -1,6 +1,6 @@
 -- What an entry does doesn't depend on the frames that it or earlier ones brought: its deeds, one by one, and what looks back at no page.
-use Rattle.std.proofs.Common.{◌≡◌, ℕ, ◌-◌, ◌==◌, ◌&&◌, ◌||◌, not, Bool, cond, Option, Some, List, [], ◌∷◌, suc, max, refl, ap, ◌∙◌}
-use Rattle.up_model.specs.Attempts.{Access, page_of, accepts, is_blocked, blocks, is_done, is_bytes, attempt_of, parked, attempt}
+use Rattle.std.proofs.Common.{◌≡◌, ℕ, ◌-◌, ◌==◌, ◌&&◌, ◌||◌, not, cond, Option, Some, List, [], ◌∷◌, suc, max, refl, ◌∙◌}
+use Rattle.up_model.specs.Attempts.{Access, accepts, is_blocked, blocks, is_done, is_bytes, attempt_of, parked, attempt}
 use Rattle.up_model.specs.Size.{resized, size, asks_to_grow, asks_to_cut, grows, cuts}
 use Rattle.up_model.specs.Deeds.{writes_in, reads_in, writes, reads, over_supply, over_dirty, over_begin, over_end, over_pin, over_unpin, over_zero, over_always, over_cold, for_zero, named, began_as, supplies, lets_dirty, begins, ends, pins_one, unpins_one, zeroes, hints_always, hints_cold, says_evicted, says_moved, reclaims, evicts, moves, of_borrow, says_borrowed, borrows, blanks, dirties, drops, supplied}
 use Rattle.up_model.specs.Roles.{leaves_user, leaves_pager, is_left, is_detach, users, pagers, in_role, was_detached, detached}

@@ -1,10 +1,10 @@
 -- What the pages are doesn't depend on the frames that calls brought: bytes, marks, states, use, and the order of reclaiming but for who waits.
-use Rattle.std.proofs.Common.{◌≡◌, ℕ, ◌-◌, ◌*◌, ◌&&◌, ◌||◌, not, Bool, true, false, cond, Option, Some, None, is_some, List, [], ◌∷◌, length, map, min, zero, suc, ◌+◌, refl, sym, ap, ◌∙◌}
+use Rattle.std.proofs.Common.{◌≡◌, ℕ, ◌-◌, ◌*◌, ◌&&◌, ◌||◌, not, true, false, cond, Some, None, is_some, List, [], ◌∷◌, length, min, zero, suc, ◌+◌, refl, sym, ap, ◌∙◌}
 use Rattle.up_model.specs.Attempts.{page_of}
-use Rattle.up_model.specs.Deeds.{Named, AnyBegin, is_named, named, ends, written}
-use Rattle.up_model.specs.Value.{or_else, value_after, value, marked, begun_by, settled, there, takes, byte_or_zero, bytes_from}
-use Rattle.up_model.specs.States.{plain, unclean, awaiting, dirty, empty_at_end, empties}
-use Rattle.up_model.specs.Use.{uses, last_use, cold_since, is_cold, newest_epoch, generation, age_class}
+use Rattle.up_model.specs.Deeds.{Named, AnyBegin, is_named, named, written}
+use Rattle.up_model.specs.Value.{or_else, value, marked, begun_by, settled, there, byte_or_zero, bytes_from}
+use Rattle.up_model.specs.States.{plain, unclean, dirty, empty_at_end}
+use Rattle.up_model.specs.Use.{uses, last_use, cold_since, generation, age_class}
 use Rattle.up_model.specs.declared.entry.Birth.{Birth}
 use Rattle.up_model.specs.declared.entry.Entry.{Entry}
 use Rattle.up_model.proofs.Equations.{value_is, marked_is, begun_by_is, settled_is}

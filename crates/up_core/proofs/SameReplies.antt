@@ -1,5 +1,5 @@
 -- A reply doesn't depend on the frames that the calls before it brought, and a call is proper or not whatever they brought.
-use Rattle.std.proofs.Common.{◌≡◌, ℕ, ◌+◌, ◌*◌, ◌==◌, ◌&&◌, ◌||◌, not, Bool, true, false, cond, Option, Some, None, List, length, map, max, refl, ap, sym, ◌∙◌}
+use Rattle.std.proofs.Common.{◌≡◌, ℕ, ◌+◌, ◌*◌, ◌==◌, ◌&&◌, ◌||◌, not, true, false, cond, Option, Some, None, List, length, map, max, refl, ◌∙◌}
 use Rattle.std.specs.Prelude.{nat_le, nat_lt, take, slice_get}
 use Rattle.up_num.specs.Span.{Span}
 use Rattle.up_num.specs.declared.answers.Outcome.{Outcome}
@@ -8,13 +8,13 @@ use Rattle.up_num.specs.declared.answers.Packet.{Packet}
 use Rattle.up_num.specs.declared.answers.Refusal.TheVariants as refusal
 use Rattle.up_num.specs.declared.pages.PageNo.{PageNo}
 use Rattle.up_model.specs.Attempts.{Access, page_of, parked}
-use Rattle.up_model.specs.Size.{size, range_fits, access_fits}
+use Rattle.up_model.specs.Size.{range_fits}
 use Rattle.up_model.specs.Pages.{first_page, count_pages, list_pages, page_number, kind_runs}
-use Rattle.up_model.specs.Tickets.{woken, outcome}
+use Rattle.up_model.specs.Tickets.{outcome}
 use Rattle.up_model.specs.Packets.{sent, taken}
 use Rattle.up_model.specs.Use.{newest_epoch}
 use Rattle.up_model.specs.Order.{order}
-use Rattle.up_model.specs.Reply.{counts_frames, is_scan, is_by, proper, refuse_where, refuse_at, begin_reply, refuse_unbegun, with_frames, one_where, must_wait, touch_reply, access_reply, retry_reply, packet_reply, first_in, count_in, absent, missing, needs_own_frame, is_pinned, is_unpinned, is_full_of_pins, unclean_kind, dirty_run, unclean_runs, ranges_reply, loaned_firm, loaned_loose, pages_where, resize_reply, reply}
+use Rattle.up_model.specs.Reply.{counts_frames, is_scan, is_by, proper, refuse_where, refuse_at, begin_reply, refuse_unbegun, with_frames, one_where, must_wait, touch_reply, access_reply, retry_reply, packet_reply, absent, needs_own_frame, is_pinned, unclean_kind, dirty_run, unclean_runs, ranges_reply, loaned_firm, loaned_loose, pages_where, resize_reply, reply}
 use Rattle.up_model.specs.declared.entry.Birth.{Birth}
 use Rattle.up_model.specs.declared.entry.Brought.{Brought}
 use Rattle.up_model.specs.declared.entry.Call.{Call}

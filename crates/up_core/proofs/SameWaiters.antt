@@ -1,22 +1,18 @@
 -- Who waits for what doesn't depend on the frames that calls brought: asks, packets, tickets, those whom a call wakes, and the order of reclaiming.
-use Rattle.std.proofs.Common.{◌≡◌, ℕ, ◌+◌, ◌-◌, ◌==◌, ◌&&◌, ◌||◌, not, Bool, cond, Option, Some, None, is_some, option_map, List, [], ◌∷◌, ◌++◌, map, min, zero, suc, refl, ap, ◌∙◌}
+use Rattle.std.proofs.Common.{◌≡◌, ℕ, ◌+◌, ◌-◌, ◌==◌, ◌&&◌, ◌||◌, not, cond, None, is_some, option_map, List, [], ◌∷◌, ◌++◌, min, zero, suc, refl, ◌∙◌}
 use Rattle.std.specs.Prelude.{nat_le, nat_lt}
 use Rattle.up_num.specs.Span.{covers}
 use Rattle.up_num.specs.declared.answers.AskKind.{AskKind}
 use Rattle.up_num.specs.declared.answers.AskKind.TheVariants.{Read as ReadAsk, Dirty as DirtyAsk}
-use Rattle.up_num.specs.declared.answers.Outcome.{Outcome}
 use Rattle.up_num.specs.declared.answers.Outcome.TheVariants.{Waiting, Freed, Shrunk, Detached as DetachedOutcome}
-use Rattle.up_num.specs.declared.answers.Packet.{Packet}
 use Rattle.up_num.specs.declared.answers.Packet.TheVariants.{Complete}
 use Rattle.up_model.specs.Attempts.{Access, page_of, accepts, is_blocked, blocks, attempt}
 use Rattle.up_model.specs.Deeds.{named}
 use Rattle.up_model.specs.Size.{size, asks_to_cut}
-use Rattle.up_model.specs.Roles.{detached, in_role, detaches}
-use Rattle.up_model.specs.Pages.{run_of, runs, list_pages}
-use Rattle.up_model.specs.Asks.{Ask, lacks, kind_of, want, wanted, resolves, resolved, asks, asked, is_waiting}
-use Rattle.up_model.specs.Packets.{packets, packet_for, requested, sent}
+use Rattle.up_model.specs.Pages.{run_of, list_pages}
+use Rattle.up_model.specs.Asks.{lacks, kind_of, want, wanted, resolves, resolved, asks, asked, is_waiting}
+use Rattle.up_model.specs.Packets.{packets, requested, sent}
 use Rattle.up_model.specs.Tickets.{next_ticket, waits, then_outcome, resolved_for, outcome, wakes, woken_from, woken}
-use Rattle.up_model.specs.Use.{is_cold, age_class, last_use, cold_since}
 use Rattle.up_model.specs.Order.{loose, reclaimable, place, below_or, goes_before, put_in_order, order}
 use Rattle.up_model.specs.declared.entry.Birth.{Birth}
 use Rattle.up_model.specs.declared.entry.Brought.{Brought}

@@ -1,6 +1,6 @@
 -- What frames have to do with replies: two journals that are the same but for what their calls brought, and how many frames a call needs.
 use Rattle.std.specs.Prelude.{◌≡◌, ℕ, Bool, true, false, List, map, nat_le}
-use Rattle.up_model.specs.Value.{value, there}
+use Rattle.up_model.specs.Value.{value}
 use Rattle.up_model.specs.Reply.{proper, reply, is_scan, frames_in}
 use Rattle.up_model.specs.declared.entry.Birth.{Birth}
 use Rattle.up_model.specs.declared.entry.Brought.{Brought}

@@ -8,7 +8,7 @@ use Rattle.up_object.specs.declared.step.Stepped.{Stepped}
 use Rattle.up_object.specs.Parts.{bank_of}
 use Rattle.up_object.specs.Change.{AllAre, AllOwn}
 use Rattle.up_object.specs.Whole.{Whole, held}
-use Rattle.up_object.specs.Steps.{frames_of}
+use Rattle.up_object.specs.OneCall.{frames_of}
 use Rattle.up_core.specs.declared.requests.Request.{Request}
 use Rattle.up_core.specs.Requests.{kind_taken, after_all, replies_to, replies_in, handed, given_back, AllBackOwn, tried, done}
 

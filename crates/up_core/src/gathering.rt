@@ -25,8 +25,10 @@ pub fn pour(from: Frames, into: &mut Frames)
 /// Moves all frames that came back into a list that has room for them.
 pub fn gather(replies: Vec<Stepped>, into: &mut Frames)
     requires room { length into.old.items + all_back replies.items ≤ into.old.room }
-    ensures kinds { (kind : FrameKindValue) → count_kind kind into.new.items ≡ count_kind kind into.old.items + given_back kind replies.items }
-    ensures own { (banks : BankPair) → AllOwn banks into.old.items → AllBackOwn banks replies.items → AllOwn banks into.new.items }
+    ensures kinds { (kind : FrameKindValue)
+        → count_kind kind into.new.items ≡ count_kind kind into.old.items + given_back kind replies.items }
+    ensures own { (banks : BankPair)
+        → AllOwn banks into.old.items → AllBackOwn banks replies.items → AllOwn banks into.new.items }
 {
     let mut rest = replies;
     while let Some(stepped) = rest.pop() {

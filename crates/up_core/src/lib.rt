@@ -1,4 +1,5 @@
 //! The core of an object: one step, which does the call that a value names, and lists of requests, done in order.
+//! Used by itself in `judge_journals`, on all worked journals.
 #![tactic(auto)]
 
 mod gathering;

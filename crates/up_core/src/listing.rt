@@ -4,7 +4,7 @@ ghost use Rattle.up_pages.specs.Frames.{count_kind};
 ghost use Rattle.up_model.specs.Size.{size};
 ghost use Rattle.up_object.specs.Change.{AllOwn};
 ghost use Rattle.up_object.specs.Whole.{Whole, held};
-ghost use Rattle.up_object.specs.Steps.{frames_of};
+ghost use Rattle.up_object.specs.OneCall.{frames_of};
 ghost use Rattle.up_core.specs.Requests.{AllKeep, AllBackOwn, after_all, replies_to, replies_in, handed, given_back, tried, done};
 ghost use Rattle.up_core.specs.Running.{Ran, Stopped, Ended, all_handed};
 
@@ -29,12 +29,16 @@ pub fn run_list(
     requires keeps { AllKeep object.old list }
     ensures replies { IfOk result (λ replies. replies_in replies ≡ replies_to object.old list) }
     ensures object { OnOk result (object.new ≡ after_all object.old list) }
-    ensures frames { IfOk result (λ replies. (kind : FrameKindValue) → given_back kind replies + held object.new.birth object.new.journal kind ≡ handed kind list + held object.old.birth object.old.journal kind) }
+    ensures frames { IfOk result (λ replies. (kind : FrameKindValue)
+        → given_back kind replies + held object.new.birth object.new.journal kind
+        ≡ handed kind list + held object.old.birth object.old.journal kind) }
     ensures own { IfOk result (λ replies. AllBackOwn object.old.banks replies) }
     ensures met { IfErr result (λ failed. length failed.1 < length list) }
     ensures left { IfErr result (λ failed. tried list failed.1 ++ failed.1 ≡ list) }
     ensures stands { IfErr result (λ failed. object.new ≡ after_all object.old (done list failed.1)) }
-    ensures back { IfErr result (λ failed. (kind : FrameKindValue) → count_kind kind failed.2.items + held object.new.birth object.new.journal kind ≡ handed kind (tried list failed.1) + held object.old.birth object.old.journal kind) }
+    ensures back { IfErr result (λ failed. (kind : FrameKindValue)
+        → count_kind kind failed.2.items + held object.new.birth object.new.journal kind
+        ≡ handed kind (tried list failed.1) + held object.old.birth object.old.journal kind) }
     ensures back_own { IfErr result (λ failed. AllOwn object.old.banks failed.2.items) }
 {
     if list.is_empty() {

@@ -1,12 +1,10 @@
-ghost use Rattle.std.specs.Prelude.{◌≡◌, ◌+◌, ◌||◌, [], true, false, length, IsTrue, IfOk, IfErr, OnOk, OnErr};
-ghost use Rattle.up_num.specs.declared.pages.Piece.{Piece as PieceValue};
-ghost use Rattle.up_bank.specs.declared.kind.FrameKind.{FrameKind as FrameKindValue};
-ghost use Rattle.up_pages.specs.Frames.{count_kind};
+ghost use Rattle.std.specs.Prelude.{◌≡◌, ◌||◌, [], true, false, length, IsTrue, IfOk, IfErr, OnOk, OnErr};
 ghost use Rattle.up_model.specs.Reply as replies;
 ghost use Rattle.up_object.specs.Parts.{bank_of};
 ghost use Rattle.up_object.specs.Change.{AllAre, AllOwn};
-ghost use Rattle.up_object.specs.Whole.{after, held};
-ghost use Rattle.up_object.specs.Steps.{Steps, brought_of, frames_of};
+ghost use Rattle.up_object.specs.Whole.{after};
+ghost use Rattle.up_object.specs.Answered.{RepliesAsDue, FramesBalance};
+ghost use Rattle.up_object.specs.OneCall.{DoesCall, brought_of, frames_of};
 ghost use Rattle.up_core.specs.Groups.{bringing, is_filling, is_writeback, is_paging};
 ghost use Rattle.up_core.specs.Requests.{takes_frames, kind_taken, Agrees};
 
@@ -34,9 +32,9 @@ pub fn step(
     requires own { AllAre (bank_of object.old.banks (kind_taken call)) (frames_of frames) }
     requires agrees { Agrees call frames }
     requires proper { IsTrue (replies.proper object.old.birth object.old.journal who call) }
-    ensures reply { IfOk result (λ s. s.reply ≡ replies.reply object.old.birth object.old.journal who epoch call) }
+    ensures reply { RepliesAsDue object.old who epoch call result }
     ensures object { OnOk result (object.new ≡ after object.old who epoch call) }
-    ensures frames { IfOk result (λ s. (kind : FrameKindValue) → count_kind kind s.back.items + held object.new.birth object.new.journal kind ≡ count_kind kind (frames_of frames) + held object.old.birth object.old.journal kind) }
+    ensures frames { FramesBalance object.old object.new (frames_of frames) result }
     ensures own { IfOk result (λ s. AllOwn object.old.banks s.back.items) }
     ensures same { OnErr result (object.new ≡ object.old) }
     ensures back { IfErr result (λ failed. failed.1.items ≡ frames_of frames) }
@@ -48,7 +46,7 @@ fn step_by(object: &mut Object, alloc: Global, by: By, call: Call, frames: Frame
     requires own { AllAre (bank_of object.old.banks (kind_taken call)) (frames_of frames) }
     requires agrees { Agrees call frames }
     requires proper { IsTrue (replies.proper object.old.birth object.old.journal by.who call) }
-    ensures { Steps object.old object.new result by.who by.epoch call (frames_of frames) }
+    ensures { DoesCall object.old object.new result by.who by.epoch call (frames_of frames) }
 {
     if takes(&call) {
         return access(object, alloc, by, call, frames);
@@ -79,7 +77,7 @@ fn access(object: &mut Object, alloc: Global, by: By, call: Call, frames: Frames
     requires takes { takes_frames call ≡ true }
     requires own { AllAre (bank_of object.old.banks (kind_taken call)) (frames_of frames) }
     requires proper { IsTrue (replies.proper object.old.birth object.old.journal by.who (bringing (brought_of frames) call)) }
-    ensures { Steps object.old object.new result by.who by.epoch (bringing (brought_of frames) call) (frames_of frames) }
+    ensures { DoesCall object.old object.new result by.who by.epoch (bringing (brought_of frames) call) (frames_of frames) }
 {
     let By { who, epoch } = by;
     match call {
@@ -117,7 +115,7 @@ fn fill(object: &mut Object, alloc: Global, by: By, call: Call, frames: FramesIn
     requires fills { is_filling call ≡ true }
     requires own { AllAre (bank_of object.old.banks (kind_taken call)) (frames_of frames) }
     requires proper { IsTrue (replies.proper object.old.birth object.old.journal by.who (bringing (brought_of frames) call)) }
-    ensures { Steps object.old object.new result by.who by.epoch (bringing (brought_of frames) call) (frames_of frames) }
+    ensures { DoesCall object.old object.new result by.who by.epoch (bringing (brought_of frames) call) (frames_of frames) }
 {
     let By { who, epoch } = by;
     match call {
@@ -136,7 +134,7 @@ fn fill(object: &mut Object, alloc: Global, by: By, call: Call, frames: FramesIn
 fn act(object: &mut Object, alloc: Global, by: By, call: Call) -> Step
     requires alone { takes_frames call ≡ false }
     requires proper { IsTrue (replies.proper object.old.birth object.old.journal by.who call) }
-    ensures { Steps object.old object.new result by.who by.epoch call [] }
+    ensures { DoesCall object.old object.new result by.who by.epoch call [] }
 {
     let By { who, epoch } = by;
     match call {
@@ -153,7 +151,7 @@ fn act(object: &mut Object, alloc: Global, by: By, call: Call) -> Step
 fn manage(object: &mut Object, alloc: Global, by: By, call: Call) -> Step
     requires manages { (is_writeback call || is_paging call) ≡ true }
     requires proper { IsTrue (replies.proper object.old.birth object.old.journal by.who call) }
-    ensures { Steps object.old object.new result by.who by.epoch call [] }
+    ensures { DoesCall object.old object.new result by.who by.epoch call [] }
 {
     let By { who, epoch } = by;
     match call {
@@ -168,7 +166,7 @@ fn manage(object: &mut Object, alloc: Global, by: By, call: Call) -> Step
 /// Does a call that reclaims pages, or says which are to be, or sets them to zeros, and takes no frames.
 fn reclaim(object: &mut Object, alloc: Global, by: By, call: Call) -> Step
     requires pages { is_paging call ≡ true }
-    ensures { Steps object.old object.new result by.who by.epoch call [] }
+    ensures { DoesCall object.old object.new result by.who by.epoch call [] }
 {
     let By { who, epoch } = by;
     match call {

@@ -1,6 +1,6 @@
-pub mod Seen
-pub mod Choices
-pub mod Counting
-pub mod Endings
-pub mod Lacking
-pub mod Again
+pub mod PageLooks
+pub mod AccessReplies
+pub mod RangeLoops
+pub mod OnePageEnds
+pub mod LackingRuns
+pub mod Retries

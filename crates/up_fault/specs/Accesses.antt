@@ -21,11 +21,11 @@ use Rattle.up_model.specs.declared.entry.Entry.{Entry}
 use Rattle.up_model.specs.declared.entry.Reply.{Reply}
 use Rattle.up_model.specs.declared.entry.Reply.TheVariants as answer
 use Rattle.up_object.specs.declared.step.Declined.TheVariants.{Refused, Needs}
-use Rattle.up_object.specs.Steps.{declined_reply}
+use Rattle.up_object.specs.OneCall.{declined_reply}
 use Rattle.up_fault.specs.declared.access.Attempt.{Attempt}
-use Rattle.up_fault.specs.declared.access.Verdict.{Verdict}
-use Rattle.up_fault.specs.declared.access.Verdict.TheVariants.{Decline, Park, Done}
-use Rattle.up_fault.specs.declared.wanting.Wanted.{Wanted}
+use Rattle.up_fault.specs.declared.access.Decision.{Decision}
+use Rattle.up_fault.specs.declared.access.Decision.TheVariants.{Decline, Park, Done}
+use Rattle.up_fault.specs.declared.wanting.Shortfall.{Shortfall}
 
 abbrev pub is_dirty_state : PageState → Bool
 is_dirty_state Dirty = true
@@ -46,19 +46,19 @@ abbrev pub done_reply : Birth → List Entry → Access → Reply
 done_reply birth h a = cond (is_some a.bytes) answer.Done (answer.Bytes (bytes_from birth h a.off a.len))
 
 -- an access that must wait, by whether the object is detached
-abbrev pub wait_verdict : Bool → AskKind → Verdict
+abbrev pub wait_verdict : Bool → AskKind → Decision
 wait_verdict gone kind = cond gone (Decline (Refused refusal.Detached)) (Park kind)
 
 -- a write that needs one frame
-abbrev pub frame_verdict : Brought → Verdict
+abbrev pub frame_verdict : Brought → Decision
 frame_verdict Nothing = Decline (Needs 1)
 frame_verdict (Frames n) = cond (nat_lt n 1) (Decline (Needs 1)) Done
 frame_verdict Scanned = Decline (Refused refusal.NoFrames)
 
 -- what an access comes to, by whether it lies within the object, its page is there, it writes, it must ask for leave first, its page
 -- lacks a frame of its own, and the object is detached
-abbrev pub verdict : Bool → Bool → Bool → Bool → Bool → Bool → Brought → Verdict
-verdict within here writes leave lacking gone brought =
+abbrev pub decision : Bool → Bool → Bool → Bool → Bool → Bool → Brought → Decision
+decision within here writes leave lacking gone brought =
     cond (not within) (Decline (Refused refusal.Range))
     (cond (not here) (wait_verdict gone ReadAsk)
     (cond (not writes) Done
@@ -81,14 +81,14 @@ pub record Doing (birth : Birth) (h : List Entry) (a : Access) (brought : Brough
   pub low : page_of a.off < size birth h
   pub framed : is_some a.bytes ≡ true → lacks_own_frame (look_of birth h (page_of a.off)) ≡ true → 0 < frames_in brought
 
--- what the verdict says of the access
-abbrev pub Decided : Birth → List Entry → Access → Brought → Verdict → Type 0
+-- what the decision says of the access
+abbrev pub Decided : Birth → List Entry → Access → Brought → Decision → Type 0
 Decided birth h a brought (Decline why) = access_reply birth h a brought ≡ declined_reply why
 Decided birth h a brought (Park kind) = Parking birth h a brought kind
 Decided birth h a brought Done = Doing birth h a brought
 
 -- what an access that waits asks for, with the runs of it that nobody asked for yet
-pub record Wants (birth : Birth) (h : List Entry) (a : Access) (wanted : Wanted) : Type 0 where
+pub record Wants (birth : Birth) (h : List Entry) (a : Access) (wanted : Shortfall) : Type 0 where
   pub asks : want birth h a ≡ record { kind = wanted.kind; first = wanted.range.first; count = wanted.range.count }
   pub fresh : wanted.parts ≡ runs (λ p. not (asked birth h wanted.kind p)) wanted.range.first 0 wanted.range.count
   pub fits : wanted.range.first + wanted.range.count ≤ size birth h

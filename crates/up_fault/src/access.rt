@@ -1,5 +1,5 @@
 //! What an access comes to: it is refused, waits, needs a frame, or is done.
-ghost use Rattle.std.specs.Prelude.{◌≡◌, ◌+◌, ◌*◌, ◌/◌, ◌%◌, ◌^◌, ◌<◌, List, ℕ, nat_le};
+ghost use Rattle.std.specs.Prelude.{◌≡◌, ◌+◌, ◌*◌, ◌/◌, ◌%◌, ◌^◌, ◌<◌, nat_le};
 ghost use Rattle.up_model.specs.Attempts.{page_of};
 ghost use Rattle.up_model.specs.States as states;
 ghost use Rattle.up_model.specs.Size as sizes;
@@ -21,7 +21,7 @@ pub(crate) struct Attempt {
 
 /// What an access comes to.
 #[derive(Clone, Copy)]
-pub(crate) enum Verdict {
+pub(crate) enum Decision {
     /// It is refused, or needs a frame.
     Decline(Declined),
     /// It waits, and asks with this kind.
@@ -35,7 +35,7 @@ pub(crate) fn page_in(object: &Object, off: u64) -> u32
     ensures value { result ≡ page_of off }
     ensures small { result + 1 < 2 ^ 32 }
 {
-    let _ = object.size();
+    object.is_bounded();
     (off / 4096) as u32
 }
 
@@ -68,7 +68,7 @@ fn is_dirty_look(look: Look) -> bool
 }
 
 /// The page is there and dirty.
-#[tactic(auto, using(crate::proofs::Seen::dirty_is))]
+#[tactic(auto, using(crate::proofs::PageLooks::dirty_is))]
 pub(crate) fn is_dirty(object: &Object, page: PageNo) -> bool
     ensures { result ≡ states.dirty object.now.birth object.now.journal page.0 }
 {

@@ -7,25 +7,25 @@ ghost use Rattle.up_model.specs.Roles as roles;
 ghost use Rattle.up_model.specs.Size as sizes;
 ghost use Rattle.up_model.specs.States.{dirty};
 ghost use Rattle.up_model.specs.Value.{there};
-ghost use Rattle.up_fault.specs.Accesses.{access_in, wait_verdict, frame_verdict, verdict, Decided};
+ghost use Rattle.up_fault.specs.Accesses.{access_in, wait_verdict, frame_verdict, decision, Decided};
 
-use crate::access::{Attempt, Verdict, fits, is_dirty, page_in};
+use crate::access::{Attempt, Decision, fits, is_dirty, page_in};
 use up_model::Brought;
 use up_num::{AskKind, PageNo, Refusal};
 use up_object::{Declined, Object};
 
 /// What an access comes to, with what was brought for it: whatever the bytes of a write.
-pub(crate) fn decide(object: &Object, attempt: &Attempt, brought: Brought) -> Verdict
+pub(crate) fn decide(object: &Object, attempt: &Attempt, brought: Brought) -> Decision
     requires some { 0 < attempt.now.len }
     ensures { (bytes : List ℕ) → Decided object.now.birth object.now.journal (access_in attempt.now bytes) brought result }
 {
-    let _ = object.size();
+    object.is_legal();
     judge(object, attempt, brought)
 }
 
-fn judge(object: &Object, attempt: &Attempt, brought: Brought) -> Verdict
+fn judge(object: &Object, attempt: &Attempt, brought: Brought) -> Decision
     requires some { 0 < attempt.now.len }
-    ensures { result ≡ verdict
+    ensures { result ≡ decision
         (nat_le (attempt.now.off + attempt.now.len) (4096 * sizes.size object.now.birth object.now.journal))
         (there object.now.birth object.now.journal (page_of attempt.now.off))
         attempt.now.write
@@ -34,14 +34,14 @@ fn judge(object: &Object, attempt: &Attempt, brought: Brought) -> Verdict
         (roles.detached object.now.birth object.now.journal) brought }
 {
     if !fits(object, attempt) {
-        return Verdict::Decline(Declined::Refused(Refusal::Range));
+        return Decision::Decline(Declined::Refused(Refusal::Range));
     }
     let page = PageNo(page_in(object, attempt.off));
     if !object.has_page(page) {
         return must_wait(object.detached(), AskKind::Read);
     }
     if !attempt.write {
-        return Verdict::Done;
+        return Decision::Done;
     }
     if object.born().trap && !is_dirty(object, page) {
         return must_wait(object.detached(), AskKind::Dirty);
@@ -49,36 +49,36 @@ fn judge(object: &Object, attempt: &Attempt, brought: Brought) -> Verdict
     if object.needs_frame(page) {
         return with_frame(brought);
     }
-    Verdict::Done
+    Decision::Done
 }
 
-fn must_wait(detached: bool, kind: AskKind) -> Verdict
+fn must_wait(detached: bool, kind: AskKind) -> Decision
     ensures { result ≡ wait_verdict detached kind }
 {
     if detached {
-        Verdict::Decline(Declined::Refused(Refusal::Detached))
+        Decision::Decline(Declined::Refused(Refusal::Detached))
     } else {
-        Verdict::Park(kind)
+        Decision::Park(kind)
     }
 }
 
 /// A write that needs one frame.
-fn with_frame(brought: Brought) -> Verdict
+fn with_frame(brought: Brought) -> Decision
     ensures { result ≡ frame_verdict brought }
 {
     match brought {
-        Brought::Nothing => Verdict::Decline(Declined::Needs(1)),
+        Brought::Nothing => Decision::Decline(Declined::Needs(1)),
         Brought::Frames(count) => with_frames(count),
-        Brought::Scanned => Verdict::Decline(Declined::Refused(Refusal::NoFrames)),
+        Brought::Scanned => Decision::Decline(Declined::Refused(Refusal::NoFrames)),
     }
 }
 
-fn with_frames(count: u32) -> Verdict
+fn with_frames(count: u32) -> Decision
     ensures { result ≡ frame_verdict (Frames count) }
 {
     if count < 1 {
-        Verdict::Decline(Declined::Needs(1))
+        Decision::Decline(Declined::Needs(1))
     } else {
-        Verdict::Done
+        Decision::Done
     }
 }

@@ -4,11 +4,11 @@ ghost use Rattle.up_bank.specs.declared.kind.FrameKind.TheVariants.{Ordinary as 
 ghost use Rattle.up_model.specs.Reply as replies;
 ghost use Rattle.up_object.specs.Parts.{bank_of};
 ghost use Rattle.up_object.specs.Change.{AllAre};
-ghost use Rattle.up_object.specs.Steps.{Steps, declined_reply};
+ghost use Rattle.up_object.specs.OneCall.{DoesCall, declined_reply};
 ghost use Rattle.up_fault.specs.Accesses.{access_in, Parking, Doing};
 ghost use Rattle.up_fault.specs.Calls.{read_call, read_attempt};
 
-use crate::access::{Attempt, Verdict, page_in};
+use crate::access::{Attempt, Decision, page_in};
 use crate::deciding::decide;
 use crate::wanting::{park, want};
 use std::alloc::Global;
@@ -69,14 +69,14 @@ impl Reading {
 pub(crate) fn read_piece(object: Object, given: (Reading, Frames)) -> (Object, Step)
     requires proper { IsTrue (replies.proper object.birth object.journal given.0.by.who (read_call given.0)) }
     requires own { AllAre (bank_of object.banks OrdinaryKind) given.1.items }
-    ensures { Steps object result.0 result.1 given.0.by.who given.0.by.epoch (read_call given.0) given.1.items }
+    ensures { DoesCall object result.0 result.1 given.0.by.who given.0.by.epoch (read_call given.0) given.1.items }
 {
     let (reading, frames) = given;
     let attempt = reading.attempt();
     match decide(&object, &attempt, reading.brought) {
-        Verdict::Decline(why) => decline_read(object, reading, why, frames),
-        Verdict::Park(kind) => park_read(object, reading, kind, frames),
-        Verdict::Done => read_bytes(object, reading, frames),
+        Decision::Decline(why) => decline_read(object, reading, why, frames),
+        Decision::Park(kind) => park_read(object, reading, kind, frames),
+        Decision::Done => read_bytes(object, reading, frames),
     }
 }
 
@@ -84,7 +84,7 @@ fn decline_read(object: Object, reading: Reading, why: Declined, frames: Frames)
     requires proper { IsTrue (replies.proper object.birth object.journal reading.by.who (read_call reading)) }
     requires own { AllAre (bank_of object.banks OrdinaryKind) frames.items }
     requires due { replies.access_reply object.birth object.journal (access_in (read_attempt reading) []) reading.brought ≡ declined_reply why }
-    ensures { Steps object result.0 result.1 reading.by.who reading.by.epoch (read_call reading) frames.items }
+    ensures { DoesCall object result.0 result.1 reading.by.who reading.by.epoch (read_call reading) frames.items }
 {
     decline(
         object,
@@ -102,7 +102,7 @@ fn park_read(object: Object, reading: Reading, kind: AskKind, frames: Frames) ->
     requires proper { IsTrue (replies.proper object.birth object.journal reading.by.who (read_call reading)) }
     requires own { AllAre (bank_of object.banks OrdinaryKind) frames.items }
     requires waits { Parking object.birth object.journal (access_in (read_attempt reading) []) reading.brought kind }
-    ensures { Steps object result.0 result.1 reading.by.who reading.by.epoch (read_call reading) frames.items }
+    ensures { DoesCall object result.0 result.1 reading.by.who reading.by.epoch (read_call reading) frames.items }
 {
     let attempt = reading.attempt();
     let Ok(wanted) = want(&object, reading.alloc, &attempt, kind) else {
@@ -136,7 +136,7 @@ fn read_bytes(object: Object, reading: Reading, frames: Frames) -> (Object, Step
     requires proper { IsTrue (replies.proper object.birth object.journal reading.by.who (read_call reading)) }
     requires own { AllAre (bank_of object.banks OrdinaryKind) frames.items }
     requires done { Doing object.birth object.journal (access_in (read_attempt reading) []) reading.brought }
-    ensures { Steps object result.0 result.1 reading.by.who reading.by.epoch (read_call reading) frames.items }
+    ensures { DoesCall object result.0 result.1 reading.by.who reading.by.epoch (read_call reading) frames.items }
 {
     let Ok(answer) = object.bytes(reading.alloc, &reading.piece) else {
         return (object, Err((Memory {}, frames)));

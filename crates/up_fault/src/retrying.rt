@@ -1,5 +1,5 @@
 //! Retries of accesses that waited.
-ghost use Rattle.std.specs.Prelude.{◌≡◌, ◌+◌, ◌%◌, ◌<◌, ◌≤◌, [], List, ℕ, length, true, false, IsTrue, Some, is_some, IfOk};
+ghost use Rattle.std.specs.Prelude.{◌≡◌, ◌+◌, ◌≤◌, List, ℕ, length, true, false, IsTrue, is_some};
 ghost use Rattle.up_bank.specs.declared.kind.FrameKind.TheVariants.{Ordinary as OrdinaryKind};
 ghost use Rattle.up_num.specs.declared.answers.Outcome.TheVariants.{Freed as FreedOutcome};
 ghost use Rattle.up_model.specs.declared.entry.Reply.TheVariants.{Refused as RefusedReply, Needs as NeedsReply, Waiting as WaitingReply};
@@ -8,15 +8,14 @@ ghost use Rattle.up_model.specs.Reply as replies;
 ghost use Rattle.up_model.specs.Tickets as tickets;
 ghost use Rattle.up_object.specs.Parts.{bank_of};
 ghost use Rattle.up_object.specs.Change.{AllAre};
-ghost use Rattle.up_object.specs.Steps.{Steps};
+ghost use Rattle.up_object.specs.OneCall.{DoesCall};
 ghost use Rattle.up_fault.specs.Accesses.{access_in, Parking, Doing};
 ghost use Rattle.up_fault.specs.Calls.{retry_call, OfParked, IsHeld, IsAttempt};
 
-use crate::access::{Attempt, Verdict, page_in, place_in};
+use crate::access::{Attempt, Decision, page_in, place_in};
 use crate::deciding::decide;
 use crate::wanting::{park, want};
 use std::alloc::Global;
-use up_asks::Waiter;
 use up_bank::FrameKind;
 use up_model::{Brought, Call, Entry, Reply};
 use up_num::{AskKind, Memory, Outcome, Piece, Refusal};
@@ -53,7 +52,7 @@ fn attempt_under(object: &Object, ticket: u64) -> Attempt
     ensures within { replies.within_page result.off result.len ≡ true }
     ensures order { page_of result.off ≤ result.last.0 }
 {
-    let _ = object.size();
+    object.is_legal();
     let waiter = object.waiter(ticket);
     Attempt {
         off: waiter.off,
@@ -68,7 +67,7 @@ pub(crate) fn try_again(object: Object, given: (Retrying, Frames)) -> (Object, S
     requires proper { IsTrue (replies.proper object.birth object.journal given.0.by.who (retry_call given.0)) }
     requires own { AllAre (bank_of object.banks OrdinaryKind) given.1.items }
     requires frames { replies.frames_in given.0.brought ≤ length given.1.items }
-    ensures { Steps object result.0 result.1 given.0.by.who given.0.by.epoch (retry_call given.0) given.1.items }
+    ensures { DoesCall object result.0 result.1 given.0.by.who given.0.by.epoch (retry_call given.0) given.1.items }
 {
     let (retrying, frames) = given;
     match object.outcome(retrying.ticket) {
@@ -85,7 +84,7 @@ fn wait(object: Object, retrying: Retrying, frames: Frames) -> (Object, Step)
     requires proper { IsTrue (replies.proper object.birth object.journal retrying.by.who (retry_call retrying)) }
     requires own { AllAre (bank_of object.banks OrdinaryKind) frames.items }
     requires due { replies.reply object.birth object.journal retrying.by.who retrying.by.epoch (retry_call retrying) ≡ WaitingReply }
-    ensures { Steps object result.0 result.1 retrying.by.who retrying.by.epoch (retry_call retrying) frames.items }
+    ensures { DoesCall object result.0 result.1 retrying.by.who retrying.by.epoch (retry_call retrying) frames.items }
 {
     let entry = retrying.entry(Reply::Waiting);
     note_with(
@@ -103,7 +102,7 @@ fn need_again(object: Object, retrying: Retrying, count: u32, frames: Frames) ->
     requires proper { IsTrue (replies.proper object.birth object.journal retrying.by.who (retry_call retrying)) }
     requires own { AllAre (bank_of object.banks OrdinaryKind) frames.items }
     requires due { replies.reply object.birth object.journal retrying.by.who retrying.by.epoch (retry_call retrying) ≡ NeedsReply count }
-    ensures { Steps object result.0 result.1 retrying.by.who retrying.by.epoch (retry_call retrying) frames.items }
+    ensures { DoesCall object result.0 result.1 retrying.by.who retrying.by.epoch (retry_call retrying) frames.items }
 {
     let entry = retrying.entry(Reply::Needs(count));
     note_with(
@@ -121,9 +120,9 @@ fn give_up(object: Object, retrying: Retrying, why: Refusal, frames: Frames) -> 
     requires proper { IsTrue (replies.proper object.birth object.journal retrying.by.who (retry_call retrying)) }
     requires own { AllAre (bank_of object.banks OrdinaryKind) frames.items }
     requires due { replies.reply object.birth object.journal retrying.by.who retrying.by.epoch (retry_call retrying) ≡ RefusedReply why }
-    ensures { Steps object result.0 result.1 retrying.by.who retrying.by.epoch (retry_call retrying) frames.items }
+    ensures { DoesCall object result.0 result.1 retrying.by.who retrying.by.epoch (retry_call retrying) frames.items }
 {
-    let _ = object.size();
+    object.is_legal();
     let entry = retrying.entry(Reply::Refused(why));
     match open(
         object,
@@ -150,14 +149,14 @@ fn access_again(object: Object, retrying: Retrying, frames: Frames) -> (Object, 
     requires own { AllAre (bank_of object.banks OrdinaryKind) frames.items }
     requires frames { replies.frames_in retrying.brought ≤ length frames.items }
     requires freed { tickets.outcome object.birth object.journal retrying.ticket ≡ FreedOutcome }
-    ensures { Steps object result.0 result.1 retrying.by.who retrying.by.epoch (retry_call retrying) frames.items }
+    ensures { DoesCall object result.0 result.1 retrying.by.who retrying.by.epoch (retry_call retrying) frames.items }
 {
     let attempt = attempt_under(&object, retrying.ticket);
     match decide(&object, &attempt, retrying.brought) {
-        Verdict::Decline(Declined::Refused(why)) => give_up(object, retrying, why, frames),
-        Verdict::Decline(Declined::Needs(count)) => need_again(object, retrying, count, frames),
-        Verdict::Park(kind) => wait_again(object, retrying, attempt, kind, frames),
-        Verdict::Done => do_again(object, retrying, attempt, frames),
+        Decision::Decline(Declined::Refused(why)) => give_up(object, retrying, why, frames),
+        Decision::Decline(Declined::Needs(count)) => need_again(object, retrying, count, frames),
+        Decision::Park(kind) => wait_again(object, retrying, attempt, kind, frames),
+        Decision::Done => do_again(object, retrying, attempt, frames),
     }
 }
 
@@ -176,9 +175,9 @@ fn wait_again(
     requires same { OfParked object.journal retrying.ticket (IsAttempt attempt) }
     requires order { page_of attempt.off ≤ attempt.last.0 }
     requires waits { (bytes : List ℕ) → Parking object.birth object.journal (access_in attempt bytes) retrying.brought kind }
-    ensures { Steps object result.0 result.1 retrying.by.who retrying.by.epoch (retry_call retrying) frames.items }
+    ensures { DoesCall object result.0 result.1 retrying.by.who retrying.by.epoch (retry_call retrying) frames.items }
 {
-    let _ = object.size();
+    object.is_legal();
     let Ok(wanted) = want(&object, retrying.alloc, &attempt, kind) else {
         return (object, Err((Memory {}, frames)));
     };
@@ -215,7 +214,7 @@ fn do_again(object: Object, retrying: Retrying, attempt: Attempt, frames: Frames
     requires same { OfParked object.journal retrying.ticket (IsAttempt attempt) }
     requires within { replies.within_page attempt.off attempt.len ≡ true }
     requires done { (bytes : List ℕ) → Doing object.birth object.journal (access_in attempt bytes) retrying.brought }
-    ensures { Steps object result.0 result.1 retrying.by.who retrying.by.epoch (retry_call retrying) frames.items }
+    ensures { DoesCall object result.0 result.1 retrying.by.who retrying.by.epoch (retry_call retrying) frames.items }
 {
     if attempt.write {
         write_again(object, retrying, attempt, frames)
@@ -239,9 +238,9 @@ fn read_again(
     requires within { replies.within_page attempt.off attempt.len ≡ true }
     requires done { (bytes : List ℕ) → Doing object.birth object.journal (access_in attempt bytes) retrying.brought }
     requires reads { attempt.write ≡ false }
-    ensures { Steps object result.0 result.1 retrying.by.who retrying.by.epoch (retry_call retrying) frames.items }
+    ensures { DoesCall object result.0 result.1 retrying.by.who retrying.by.epoch (retry_call retrying) frames.items }
 {
-    let _ = object.size();
+    object.is_legal();
     let piece = Piece {
         off: attempt.off,
         len: attempt.len,
@@ -290,9 +289,9 @@ fn write_again(
     requires within { replies.within_page attempt.off attempt.len ≡ true }
     requires done { (bytes : List ℕ) → Doing object.birth object.journal (access_in attempt bytes) retrying.brought }
     requires writes { attempt.write ≡ true }
-    ensures { Steps object result.0 result.1 retrying.by.who retrying.by.epoch (retry_call retrying) frames.items }
+    ensures { DoesCall object result.0 result.1 retrying.by.who retrying.by.epoch (retry_call retrying) frames.items }
 {
-    let _ = object.size();
+    object.is_legal();
     let entry = retrying.entry(Reply::Done);
     let page = page_in(&object, attempt.off);
     match open(

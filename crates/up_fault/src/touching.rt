@@ -1,14 +1,13 @@
 //! The two public calls.
-ghost use Rattle.std.specs.Prelude.{◌≡◌, ℕ, ◌+◌, IsTrue, IfOk, IfErr, OnOk, OnErr, IfSome, length};
-ghost use Rattle.up_bank.specs.declared.kind.FrameKind.{FrameKind as FrameKindValue};
+ghost use Rattle.std.specs.Prelude.{◌≡◌, IsTrue, IfOk, IfErr, OnOk, OnErr, IfSome, length};
 ghost use Rattle.up_bank.specs.declared.kind.FrameKind.TheVariants.{Ordinary as OrdinaryKind};
-ghost use Rattle.up_pages.specs.Frames.{count_kind};
 ghost use Rattle.up_model.specs.Reply as replies;
 ghost use Rattle.up_model.specs.declared.entry.Call.TheVariants.{Retry as RetryCall};
 ghost use Rattle.up_object.specs.Parts.{bank_of};
 ghost use Rattle.up_object.specs.Change.{AllAre, AllOwn};
-ghost use Rattle.up_object.specs.Whole.{held, after};
-ghost use Rattle.up_object.specs.Steps.{brought_of, frames_of};
+ghost use Rattle.up_object.specs.Whole.{after};
+ghost use Rattle.up_object.specs.Answered.{RepliesAsDue, FramesBalance};
+ghost use Rattle.up_object.specs.OneCall.{brought_of, frames_of};
 ghost use Rattle.up_fault.specs.Calls.{touch_call};
 
 use crate::reading::{Reading, read_piece};
@@ -31,12 +30,15 @@ pub fn touch(
     last: PageNo,
     frame: FramesIn,
 ) -> Step
-    requires proper { IsTrue (replies.proper object.old.birth object.old.journal who (touch_call piece write last (brought_of frame))) }
+    requires proper { IsTrue (replies.proper object.old.birth object.old.journal who
+        (touch_call piece write last (brought_of frame))) }
     requires own { AllAre (bank_of object.old.banks OrdinaryKind) (frames_of frame) }
     requires bytes { IfSome write (λ bytes. length bytes ≡ piece.len) }
-    ensures reply { IfOk result (λ step. step.reply ≡ replies.reply object.old.birth object.old.journal who epoch (touch_call piece write last (brought_of frame))) }
-    ensures object { OnOk result (object.new ≡ after object.old who epoch (touch_call piece write last (brought_of frame))) }
-    ensures frames { IfOk result (λ step. (kind : FrameKindValue) → count_kind kind step.back.items + held object.new.birth object.new.journal kind ≡ count_kind kind (frames_of frame) + held object.old.birth object.old.journal kind) }
+    ensures reply { RepliesAsDue object.old who epoch
+        (touch_call piece write last (brought_of frame)) result }
+    ensures object { OnOk result (object.new
+        ≡ after object.old who epoch (touch_call piece write last (brought_of frame))) }
+    ensures frames { FramesBalance object.old object.new (frames_of frame) result }
     ensures own { IfOk result (λ step. AllOwn object.old.banks step.back.items) }
     ensures same { OnErr result (object.new ≡ object.old) }
     ensures back { IfErr result (λ failed. failed.1.items ≡ frames_of frame) }
@@ -78,11 +80,13 @@ pub fn retry(
     ticket: u64,
     frame: FramesIn,
 ) -> Step
-    requires proper { IsTrue (replies.proper object.old.birth object.old.journal who (RetryCall ticket (brought_of frame))) }
+    requires proper { IsTrue (replies.proper object.old.birth object.old.journal who
+        (RetryCall ticket (brought_of frame))) }
     requires own { AllAre (bank_of object.old.banks OrdinaryKind) (frames_of frame) }
-    ensures reply { IfOk result (λ step. step.reply ≡ replies.reply object.old.birth object.old.journal who epoch (RetryCall ticket (brought_of frame))) }
-    ensures object { OnOk result (object.new ≡ after object.old who epoch (RetryCall ticket (brought_of frame))) }
-    ensures frames { IfOk result (λ step. (kind : FrameKindValue) → count_kind kind step.back.items + held object.new.birth object.new.journal kind ≡ count_kind kind (frames_of frame) + held object.old.birth object.old.journal kind) }
+    ensures reply { RepliesAsDue object.old who epoch (RetryCall ticket (brought_of frame)) result }
+    ensures object { OnOk result (object.new
+        ≡ after object.old who epoch (RetryCall ticket (brought_of frame))) }
+    ensures frames { FramesBalance object.old object.new (frames_of frame) result }
     ensures own { IfOk result (λ step. AllOwn object.old.banks step.back.items) }
     ensures same { OnErr result (object.new ≡ object.old) }
     ensures back { IfErr result (λ failed. failed.1.items ≡ frames_of frame) }

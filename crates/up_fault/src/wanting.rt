@@ -27,13 +27,13 @@ use up_span::Runs;
 
 /// Pages that an access asks for, with the runs of them that nobody asked for yet.
 #[derive(Drop)]
-pub(crate) struct Wanted {
+pub(crate) struct Shortfall {
     pub(crate) kind: AskKind,
     pub(crate) range: PageRange,
     pub(crate) parts: Runs,
 }
 
-impl Wanted {
+impl Shortfall {
     /// How many packets ask for it.
     pub(crate) fn packets(&self) -> u32
         requires { length self.now.parts < 2 ^ 32 }
@@ -86,7 +86,7 @@ pub(crate) fn want(
     alloc: Global,
     attempt: &Attempt,
     kind: AskKind,
-) -> Result<Wanted, Memory>
+) -> Result<Shortfall, Memory>
     requires asks { asking.kind_of object.now.birth object.now.journal (access_in attempt.now []) ≡ kind }
     requires lacking { asking.lacks object.now.birth object.now.journal kind (page_of attempt.now.off) ≡ true }
     requires low { page_of attempt.now.off < sizes.size object.now.birth object.now.journal }
@@ -100,14 +100,14 @@ pub(crate) fn want(
     let count = lacking(object, kind, first, room);
     let range = PageRange { first, count };
     let parts = object.fresh(alloc, kind, &range)?;
-    Ok(Wanted { kind, range, parts })
+    Ok(Shortfall { kind, range, parts })
 }
 
 /// Parks an access: the call's entry answers that it waits. It gives the object, and all frames that were given.
 pub(crate) fn park(
     mut changing: Changing,
     who: u32,
-    wanted: Wanted,
+    wanted: Shortfall,
     piece: Waiter,
 ) -> (Object, Frames)
     requires first { changing.done.asks ≡ false }
@@ -128,7 +128,7 @@ pub(crate) fn park(
     ensures frames { (kind : FrameKindValue) → count_kind kind result.1.items + held changing.birth (changing.entry ∷ changing.journal) kind ≡ of_kind kind changing.frames }
     ensures own { AllOwn changing.banks result.1.items }
 {
-    let Wanted { kind, range, parts } = wanted;
+    let Shortfall { kind, range, parts } = wanted;
     let first = first_of(range);
     let end = end_of(range);
     changing.park(who, kind, range, &parts, piece);

@@ -4,11 +4,11 @@ ghost use Rattle.up_bank.specs.declared.kind.FrameKind.TheVariants.{Ordinary as 
 ghost use Rattle.up_model.specs.Reply as replies;
 ghost use Rattle.up_object.specs.Parts.{bank_of};
 ghost use Rattle.up_object.specs.Change.{AllAre};
-ghost use Rattle.up_object.specs.Steps.{Steps, declined_reply};
+ghost use Rattle.up_object.specs.OneCall.{DoesCall, declined_reply};
 ghost use Rattle.up_fault.specs.Accesses.{Parking, Doing};
 ghost use Rattle.up_fault.specs.Calls.{write_call, write_access};
 
-use crate::access::{Attempt, Verdict, page_in, place_in};
+use crate::access::{Attempt, Decision, page_in, place_in};
 use crate::deciding::decide;
 use crate::wanting::{park, want};
 use std::alloc::Global;
@@ -74,14 +74,14 @@ pub(crate) fn write_piece(object: Object, given: (Writing, Bytes, Frames)) -> (O
     requires proper { IsTrue (replies.proper object.birth object.journal given.0.by.who (write_call given.0 given.1)) }
     requires own { AllAre (bank_of object.banks OrdinaryKind) given.2.items }
     requires frames { replies.frames_in given.0.brought ≤ length given.2.items }
-    ensures { Steps object result.0 result.1 given.0.by.who given.0.by.epoch (write_call given.0 given.1) given.2.items }
+    ensures { DoesCall object result.0 result.1 given.0.by.who given.0.by.epoch (write_call given.0 given.1) given.2.items }
 {
     let (writing, bytes, frames) = given;
     let attempt = writing.attempt(&bytes);
     match decide(&object, &attempt, writing.brought) {
-        Verdict::Decline(why) => decline_write(object, writing, bytes, why, frames),
-        Verdict::Park(kind) => park_write(object, writing, bytes, kind, frames),
-        Verdict::Done => write_bytes(object, writing, bytes, frames),
+        Decision::Decline(why) => decline_write(object, writing, bytes, why, frames),
+        Decision::Park(kind) => park_write(object, writing, bytes, kind, frames),
+        Decision::Done => write_bytes(object, writing, bytes, frames),
     }
 }
 
@@ -95,7 +95,7 @@ fn decline_write(
     requires proper { IsTrue (replies.proper object.birth object.journal writing.by.who (write_call writing bytes)) }
     requires own { AllAre (bank_of object.banks OrdinaryKind) frames.items }
     requires due { replies.access_reply object.birth object.journal (write_access writing bytes) writing.brought ≡ declined_reply why }
-    ensures { Steps object result.0 result.1 writing.by.who writing.by.epoch (write_call writing bytes) frames.items }
+    ensures { DoesCall object result.0 result.1 writing.by.who writing.by.epoch (write_call writing bytes) frames.items }
 {
     let call = writing.call(bytes);
     decline(
@@ -120,7 +120,7 @@ fn park_write(
     requires proper { IsTrue (replies.proper object.birth object.journal writing.by.who (write_call writing bytes)) }
     requires own { AllAre (bank_of object.banks OrdinaryKind) frames.items }
     requires waits { Parking object.birth object.journal (write_access writing bytes) writing.brought kind }
-    ensures { Steps object result.0 result.1 writing.by.who writing.by.epoch (write_call writing bytes) frames.items }
+    ensures { DoesCall object result.0 result.1 writing.by.who writing.by.epoch (write_call writing bytes) frames.items }
 {
     let attempt = writing.attempt(&bytes);
     let Ok(wanted) = want(&object, writing.alloc, &attempt, kind) else {
@@ -160,7 +160,7 @@ fn write_bytes(object: Object, writing: Writing, bytes: Bytes, frames: Frames) -
     requires own { AllAre (bank_of object.banks OrdinaryKind) frames.items }
     requires frames { replies.frames_in writing.brought ≤ length frames.items }
     requires done { Doing object.birth object.journal (write_access writing bytes) writing.brought }
-    ensures { Steps object result.0 result.1 writing.by.who writing.by.epoch (write_call writing bytes) frames.items }
+    ensures { DoesCall object result.0 result.1 writing.by.who writing.by.epoch (write_call writing bytes) frames.items }
 {
     let Ok(kept) = bytes.copy(writing.alloc) else {
         return (object, Err((Memory {}, frames)));

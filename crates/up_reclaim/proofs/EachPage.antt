@@ -20,9 +20,9 @@ use Rattle.up_model.specs.declared.entry.Entry.{Entry}
 use Rattle.up_model.specs.declared.entry.HintKind.{HintKind}
 use Rattle.up_model.proofs.Passed.{none_in}
 use Rattle.up_model.proofs.Reclaiming.{evicted_page}
-use Rattle.up_model.proofs.Touching.{hint_marks, pin_one, unpin_one, evict_goes}
-use Rattle.up_object.proofs.Looking.{present_is}
-use Rattle.up_object.proofs.Ranged.{covered_at}
+use Rattle.up_model.proofs.PagesTouched.{hint_marks, pin_one, unpin_one, evict_goes}
+use Rattle.up_object.proofs.PageLooks.{present_is}
+use Rattle.up_object.proofs.RangeCalls.{covered_at}
 
 pub hint_at : (birth : Birth) (e : Entry) (h : List Entry) (range : Span) (kind : HintKind) (mark place : ℕ) → e.call ≡ Hint range kind → accepts e.reply ≡ true →
     mark ≡ range.first → place < range.count → Hints birth e h (mark + place) (is_always kind)

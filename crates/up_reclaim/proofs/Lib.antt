@@ -1,4 +1,4 @@
 pub mod EachPage
-pub mod Lending
-pub mod Listed
-pub mod Vacated
+pub mod Borrows
+pub mod PageLists
+pub mod Vacates

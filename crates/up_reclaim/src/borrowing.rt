@@ -1,7 +1,5 @@
-ghost use Rattle.std.specs.Prelude.{◌≡◌, ℕ, ◌+◌, ◌<◌, ◌≤◌, true, false, length, None, IfOk, IfErr, OnOk, OnErr};
-ghost use Rattle.up_bank.specs.declared.kind.FrameKind.{FrameKind as FrameKindValue};
+ghost use Rattle.std.specs.Prelude.{◌≡◌, ◌+◌, ◌<◌, ◌≤◌, true, false, length, None, IfOk, IfErr, OnOk, OnErr};
 ghost use Rattle.up_bank.specs.declared.kind.FrameKind.TheVariants.{Loaned as LoanedKind};
-ghost use Rattle.up_pages.specs.Frames.{count_kind};
 ghost use Rattle.up_model.specs.Size.{size};
 ghost use Rattle.up_model.specs.Pins as marks;
 ghost use Rattle.up_model.specs.States as states;
@@ -11,8 +9,9 @@ ghost use Rattle.up_model.specs.declared.entry.Reply.TheVariants.{Borrowed as Bo
 ghost use Rattle.up_model.specs.Reply as replies;
 ghost use Rattle.up_object.specs.Parts.{bank_of};
 ghost use Rattle.up_object.specs.Change.{AllAre, AllOwn};
-ghost use Rattle.up_object.specs.Whole.{after, held};
-ghost use Rattle.up_object.specs.Steps.{Steps, brought_of, frames_of, declined_reply};
+ghost use Rattle.up_object.specs.Whole.{after};
+ghost use Rattle.up_object.specs.Answered.{RepliesAsDue, FramesBalance};
+ghost use Rattle.up_object.specs.OneCall.{DoesCall, brought_of, frames_of, declined_reply};
 
 use core::mem::replace_with;
 use std::alloc::Global;
@@ -37,9 +36,10 @@ pub fn borrow(
     frames: FramesIn,
 ) -> Step
     requires own { AllAre (bank_of object.old.banks LoanedKind) (frames_of frames) }
-    ensures reply { IfOk result (λ s. s.reply ≡ replies.reply object.old.birth object.old.journal who epoch (BorrowCall page (brought_of frames))) }
-    ensures object { OnOk result (object.new ≡ after object.old who epoch (BorrowCall page (brought_of frames))) }
-    ensures frames { IfOk result (λ s. (k : FrameKindValue) → count_kind k s.back.items + held object.new.birth object.new.journal k ≡ count_kind k (frames_of frames) + held object.old.birth object.old.journal k) }
+    ensures reply { RepliesAsDue object.old who epoch (BorrowCall page (brought_of frames)) result }
+    ensures object { OnOk result (object.new
+        ≡ after object.old who epoch (BorrowCall page (brought_of frames))) }
+    ensures frames { FramesBalance object.old object.new (frames_of frames) result }
     ensures own { IfOk result (λ s. AllOwn object.old.banks s.back.items) }
     ensures same { OnErr result (object.new ≡ object.old) }
     ensures back { IfErr result (λ failed. failed.1.items ≡ frames_of frames) }
@@ -78,7 +78,7 @@ impl Borrowing {
         requires own { AllAre (bank_of object.banks LoanedKind) given.items }
         requires some { replies.counts_frames self.brought ≡ true }
         requires due { replies.reply object.birth object.journal self.by.who self.by.epoch (BorrowCall self.page self.brought) ≡ declined_reply why }
-        ensures { Steps object result.0 result.1 self.by.who self.by.epoch (BorrowCall self.page self.brought) given.items }
+        ensures { DoesCall object result.0 result.1 self.by.who self.by.epoch (BorrowCall self.page self.brought) given.items }
     {
         decline(
             object,
@@ -96,7 +96,7 @@ fn borrow_by(object: Object, load: (Borrowing, Frames)) -> (Object, Step)
     requires own { AllAre (bank_of object.banks LoanedKind) load.1.items }
     requires some { replies.counts_frames load.0.brought ≡ true }
     requires count { length load.1.items ≡ replies.frames_in load.0.brought }
-    ensures { Steps object result.0 result.1 load.0.by.who load.0.by.epoch (BorrowCall load.0.page load.0.brought) load.1.items }
+    ensures { DoesCall object result.0 result.1 load.0.by.who load.0.by.epoch (BorrowCall load.0.page load.0.brought) load.1.items }
 {
     let (borrowing, given) = load;
     let page = borrowing.page;
@@ -127,11 +127,11 @@ fn keep_loan(object: Object, borrowing: Borrowing, given: Frames) -> (Object, St
     requires some { replies.counts_frames borrowing.brought ≡ true }
     requires within { borrowing.page.0 < size object.birth object.journal }
     requires due { replies.reply object.birth object.journal borrowing.by.who borrowing.by.epoch (BorrowCall borrowing.page borrowing.brought) ≡ BorrowedReply false }
-    ensures { Steps object result.0 result.1 borrowing.by.who borrowing.by.epoch (BorrowCall borrowing.page borrowing.brought) given.items }
+    ensures { DoesCall object result.0 result.1 borrowing.by.who borrowing.by.epoch (BorrowCall borrowing.page borrowing.brought) given.items }
 {
     let entry = borrowing.by.entry(borrowing.call(), Reply::Borrowed(false));
     let page = borrowing.page.0;
-    let _ = object.size();
+    object.is_bounded();
     match open(
         object,
         borrowing.alloc,
@@ -161,11 +161,12 @@ fn lend(object: Object, borrowing: Borrowing, given: Frames) -> (Object, Step)
     requires clean { states.unclean object.birth object.journal borrowing.page.0 ≡ false }
     requires owned { marks.loaned object.birth object.journal borrowing.page.0 ≡ false }
     requires due { replies.reply object.birth object.journal borrowing.by.who borrowing.by.epoch (BorrowCall borrowing.page borrowing.brought) ≡ BorrowedReply true }
-    ensures { Steps object result.0 result.1 borrowing.by.who borrowing.by.epoch (BorrowCall borrowing.page borrowing.brought) given.items }
+    ensures { DoesCall object result.0 result.1 borrowing.by.who borrowing.by.epoch (BorrowCall borrowing.page borrowing.brought) given.items }
 {
     let entry = borrowing.by.entry(borrowing.call(), Reply::Borrowed(true));
     let page = borrowing.page.0;
-    let _ = object.size();
+    object.is_legal();
+    object.is_bounded();
     match open(
         object,
         borrowing.alloc,

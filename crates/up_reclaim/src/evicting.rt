@@ -1,12 +1,11 @@
-ghost use Rattle.std.specs.Prelude.{◌≡◌, ℕ, ◌+◌, [], IfOk, IfErr, OnOk, OnErr};
-ghost use Rattle.up_bank.specs.declared.kind.FrameKind.{FrameKind as FrameKindValue};
-ghost use Rattle.up_pages.specs.Frames.{count_kind};
+ghost use Rattle.std.specs.Prelude.{◌≡◌, [], IfOk, IfErr, OnOk, OnErr};
 ghost use Rattle.up_model.specs.declared.entry.Call.TheVariants.{Evict as EvictCall};
 ghost use Rattle.up_model.specs.declared.entry.Reply.TheVariants.{Pages as PagesReply};
 ghost use Rattle.up_model.specs.Reply as replies;
 ghost use Rattle.up_object.specs.Change.{AllOwn};
-ghost use Rattle.up_object.specs.Whole.{after, held};
-ghost use Rattle.up_object.specs.Steps.{Steps};
+ghost use Rattle.up_object.specs.Whole.{after};
+ghost use Rattle.up_object.specs.Answered.{RepliesAsDue, FramesBalance};
+ghost use Rattle.up_object.specs.OneCall.{DoesCall};
 
 use core::mem::replace_with;
 use std::alloc::Global;
@@ -19,9 +18,9 @@ use up_pages::Frames;
 /// Takes at most `max` pages away, of those that are cold or of age `limit` at least: the first in the order of reclaiming. It answers
 /// `Pages` with their numbers, and their frames come back.
 pub fn evict(object: &mut Object, alloc: Global, who: u32, epoch: u64, limit: u32, max: u32) -> Step
-    ensures reply { IfOk result (λ s. s.reply ≡ replies.reply object.old.birth object.old.journal who epoch (EvictCall limit max)) }
+    ensures reply { RepliesAsDue object.old who epoch (EvictCall limit max) result }
     ensures object { OnOk result (object.new ≡ after object.old who epoch (EvictCall limit max)) }
-    ensures frames { IfOk result (λ s. (k : FrameKindValue) → count_kind k s.back.items + held object.new.birth object.new.journal k ≡ count_kind k [] + held object.old.birth object.old.journal k) }
+    ensures frames { FramesBalance object.old object.new [] result }
     ensures own { IfOk result (λ s. AllOwn object.old.banks s.back.items) }
     ensures same { OnErr result (object.new ≡ object.old) }
     ensures back { IfErr result (λ failed. failed.1.items ≡ []) }
@@ -58,14 +57,14 @@ impl Evicting {
     }
 
     fn fail(self, object: Object, memory: Memory) -> (Object, Step)
-        ensures { Steps object result.0 result.1 self.by.who self.by.epoch (EvictCall self.limit self.max) [] }
+        ensures { DoesCall object result.0 result.1 self.by.who self.by.epoch (EvictCall self.limit self.max) [] }
     {
         (object, Err((memory, Frames::new(self.alloc))))
     }
 }
 
 fn evict_by(object: Object, evicting: Evicting) -> (Object, Step)
-    ensures { Steps object result.0 result.1 evicting.by.who evicting.by.epoch (EvictCall evicting.limit evicting.max) [] }
+    ensures { DoesCall object result.0 result.1 evicting.by.who evicting.by.epoch (EvictCall evicting.limit evicting.max) [] }
 {
     match object.oldest(
         evicting.alloc,
@@ -81,14 +80,14 @@ fn evict_by(object: Object, evicting: Evicting) -> (Object, Step)
 /// Takes these pages away, which are the first in the order of reclaiming.
 fn evict_pages(object: Object, evicting: Evicting, pages: PageSeq) -> (Object, Step)
     requires { replies.reply object.birth object.journal evicting.by.who evicting.by.epoch (EvictCall evicting.limit evicting.max) ≡ PagesReply pages }
-    ensures { Steps object result.0 result.1 evicting.by.who evicting.by.epoch (EvictCall evicting.limit evicting.max) [] }
+    ensures { DoesCall object result.0 result.1 evicting.by.who evicting.by.epoch (EvictCall evicting.limit evicting.max) [] }
 {
     let noted = match pages.copy(evicting.alloc) {
         Ok(noted) => noted,
         Err(memory) => return evicting.fail(object, memory),
     };
     let entry = evicting.by.entry(evicting.call(), Reply::Pages(noted));
-    let _ = object.size();
+    object.is_legal();
     match evict_list(object, evicting.alloc, entry, &pages) {
         Ok((object, back)) => {
             let reply = Reply::Pages(pages);

@@ -1,14 +1,12 @@
-ghost use Rattle.std.specs.Prelude.{◌≡◌, ℕ, ◌+◌, [], true, IfOk, IfErr, OnOk, OnErr};
-ghost use Rattle.up_bank.specs.declared.kind.FrameKind.{FrameKind as FrameKindValue};
-ghost use Rattle.up_pages.specs.Frames.{count_kind};
+ghost use Rattle.std.specs.Prelude.{◌≡◌, ◌+◌, [], true, IfOk, IfErr, OnOk, OnErr};
 ghost use Rattle.up_model.specs.Attempts.{accepts};
 ghost use Rattle.up_model.specs.Deeds as deeds;
 ghost use Rattle.up_model.specs.Size.{range_fits};
 ghost use Rattle.up_model.specs.declared.entry.Call.TheVariants.{Hint as HintCall};
-ghost use Rattle.up_model.specs.Reply as replies;
 ghost use Rattle.up_object.specs.Change.{AllOwn};
-ghost use Rattle.up_object.specs.Whole.{after, held};
-ghost use Rattle.up_object.specs.Steps.{Steps, further};
+ghost use Rattle.up_object.specs.Whole.{after};
+ghost use Rattle.up_object.specs.Answered.{RepliesAsDue, FramesBalance};
+ghost use Rattle.up_object.specs.OneCall.{DoesCall, further};
 
 use core::mem::replace_with;
 use std::alloc::Global;
@@ -28,9 +26,9 @@ pub fn hint(
     range: PageRange,
     kind: HintKind,
 ) -> Step
-    ensures reply { IfOk result (λ s. s.reply ≡ replies.reply object.old.birth object.old.journal who epoch (HintCall range kind)) }
+    ensures reply { RepliesAsDue object.old who epoch (HintCall range kind) result }
     ensures object { OnOk result (object.new ≡ after object.old who epoch (HintCall range kind)) }
-    ensures frames { IfOk result (λ s. (k : FrameKindValue) → count_kind k s.back.items + held object.new.birth object.new.journal k ≡ count_kind k [] + held object.old.birth object.old.journal k) }
+    ensures frames { FramesBalance object.old object.new [] result }
     ensures own { IfOk result (λ s. AllOwn object.old.banks s.back.items) }
     ensures same { OnErr result (object.new ≡ object.old) }
     ensures back { IfErr result (λ failed. failed.1.items ≡ []) }
@@ -77,7 +75,7 @@ fn protects(kind: HintKind) -> bool
 }
 
 fn hint_by(object: Object, hinting: Hinting) -> (Object, Step)
-    ensures { Steps object result.0 result.1 hinting.by.who hinting.by.epoch (HintCall hinting.range hinting.kind) [] }
+    ensures { DoesCall object result.0 result.1 hinting.by.who hinting.by.epoch (HintCall hinting.range hinting.kind) [] }
 {
     if object.has_range(hinting.range) {
         return hint_pages(object, hinting);
@@ -96,7 +94,7 @@ fn hint_by(object: Object, hinting: Hinting) -> (Object, Step)
 /// Hints the pages of a range that fits.
 fn hint_pages(object: Object, hinting: Hinting) -> (Object, Step)
     requires fits { range_fits object.birth object.journal hinting.range ≡ true }
-    ensures { Steps object result.0 result.1 hinting.by.who hinting.by.epoch (HintCall hinting.range hinting.kind) [] }
+    ensures { DoesCall object result.0 result.1 hinting.by.who hinting.by.epoch (HintCall hinting.range hinting.kind) [] }
 {
     let entry = hinting.by.entry(hinting.call(), Reply::Done);
     let first = first_of(hinting.range);

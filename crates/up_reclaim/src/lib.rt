@@ -1,4 +1,5 @@
 //! The calls on an object that reclaim its pages, and that say which are to be reclaimed: hints, pins, loans and evictions.
+//! Used through `up_core`, by `judge_journals`: its calls on worked journals.
 #![tactic(auto)]
 
 mod borrowing;

@@ -67,7 +67,7 @@ fn put_where(found: &mut PageSeq, test: bool, page: PageNo) -> Result<(), Memory
 }
 
 /// The pages in loaned frames that go, or those that get another one, rising.
-#[tactic(auto, using(crate::proofs::Listed::number_step))]
+#[tactic(auto, using(crate::proofs::PageLists::number_step))]
 fn loans_of(object: &Object, alloc: Global, goes: bool) -> Result<PageSeq, Memory>
     ensures { IfOk result (λ pages. pages ≡ map page_number (replies.pages_where object.now.birth object.now.journal (loan_test object.now.birth object.now.journal goes))) }
 {
@@ -80,7 +80,7 @@ fn loans_of(object: &Object, alloc: Global, goes: bool) -> Result<PageSeq, Memor
 }
 
 /// How many pages in loaned frames get another one.
-#[tactic(auto, using(crate::proofs::Listed::firm_step))]
+#[tactic(auto, using(crate::proofs::PageLists::firm_step))]
 pub(crate) fn count_firm(object: &Object) -> u32
     ensures { result ≡ length (replies.pages_where object.now.birth object.now.journal (replies.loaned_firm object.now.birth object.now.journal)) }
 {

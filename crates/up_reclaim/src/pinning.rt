@@ -1,7 +1,5 @@
-ghost use Rattle.std.specs.Prelude.{◌≡◌, ℕ, ◌+◌, ◌≤◌, true, false, length, None, IfOk, IfErr, OnOk, OnErr};
-ghost use Rattle.up_bank.specs.declared.kind.FrameKind.{FrameKind as FrameKindValue};
+ghost use Rattle.std.specs.Prelude.{◌≡◌, ◌+◌, ◌≤◌, true, false, length, None, IfOk, IfErr, OnOk, OnErr};
 ghost use Rattle.up_bank.specs.declared.kind.FrameKind.TheVariants.{Ordinary as OrdinaryKind};
-ghost use Rattle.up_pages.specs.Frames.{count_kind};
 ghost use Rattle.up_model.specs.Attempts.{accepts};
 ghost use Rattle.up_model.specs.Size.{range_fits};
 ghost use Rattle.up_model.specs.Legal.{Legal};
@@ -10,8 +8,9 @@ ghost use Rattle.up_model.specs.declared.entry.Reply.TheVariants.{Done as DoneRe
 ghost use Rattle.up_model.specs.Reply as replies;
 ghost use Rattle.up_object.specs.Parts.{bank_of, is_loan};
 ghost use Rattle.up_object.specs.Change.{AllAre, AllOwn};
-ghost use Rattle.up_object.specs.Whole.{after, held};
-ghost use Rattle.up_object.specs.Steps.{Steps, brought_of, frames_of, declined_reply, further};
+ghost use Rattle.up_object.specs.Whole.{after};
+ghost use Rattle.up_object.specs.Answered.{RepliesAsDue, FramesBalance};
+ghost use Rattle.up_object.specs.OneCall.{DoesCall, brought_of, frames_of, declined_reply, further};
 
 use core::mem::replace_with;
 use std::alloc::Global;
@@ -38,9 +37,10 @@ pub fn pin(
     frames: FramesIn,
 ) -> Step
     requires own { AllAre (bank_of object.old.banks OrdinaryKind) (frames_of frames) }
-    ensures reply { IfOk result (λ s. s.reply ≡ replies.reply object.old.birth object.old.journal who epoch (PinCall range (brought_of frames))) }
-    ensures object { OnOk result (object.new ≡ after object.old who epoch (PinCall range (brought_of frames))) }
-    ensures frames { IfOk result (λ s. (k : FrameKindValue) → count_kind k s.back.items + held object.new.birth object.new.journal k ≡ count_kind k (frames_of frames) + held object.old.birth object.old.journal k) }
+    ensures reply { RepliesAsDue object.old who epoch (PinCall range (brought_of frames)) result }
+    ensures object { OnOk result (object.new
+        ≡ after object.old who epoch (PinCall range (brought_of frames))) }
+    ensures frames { FramesBalance object.old object.new (frames_of frames) result }
     ensures own { IfOk result (λ s. AllOwn object.old.banks s.back.items) }
     ensures same { OnErr result (object.new ≡ object.old) }
     ensures back { IfErr result (λ failed. failed.1.items ≡ frames_of frames) }
@@ -79,7 +79,7 @@ impl Pinning {
         requires own { AllAre (bank_of object.banks OrdinaryKind) given.items }
         requires some { replies.counts_frames self.brought ≡ true }
         requires due { replies.reply object.birth object.journal self.by.who self.by.epoch (PinCall self.range self.brought) ≡ declined_reply why }
-        ensures { Steps object result.0 result.1 self.by.who self.by.epoch (PinCall self.range self.brought) given.items }
+        ensures { DoesCall object result.0 result.1 self.by.who self.by.epoch (PinCall self.range self.brought) given.items }
     {
         decline(
             object,
@@ -97,7 +97,7 @@ fn pin_by(object: Object, load: (Pinning, Frames)) -> (Object, Step)
     requires own { AllAre (bank_of object.banks OrdinaryKind) load.1.items }
     requires some { replies.counts_frames load.0.brought ≡ true }
     requires count { length load.1.items ≡ replies.frames_in load.0.brought }
-    ensures { Steps object result.0 result.1 load.0.by.who load.0.by.epoch (PinCall load.0.range load.0.brought) load.1.items }
+    ensures { DoesCall object result.0 result.1 load.0.by.who load.0.by.epoch (PinCall load.0.range load.0.brought) load.1.items }
 {
     let (pinning, given) = load;
     if !object.has_range(pinning.range) {
@@ -127,12 +127,12 @@ fn pin_pages(object: Object, pinning: Pinning, given: Frames) -> (Object, Step)
     requires few { replies.first_in (replies.is_full_of_pins object.journal) pinning.range ≡ None }
     requires enough { replies.count_in (replies.needs_own_frame object.birth object.journal) pinning.range ≤ length given.items }
     requires due { replies.reply object.birth object.journal pinning.by.who pinning.by.epoch (PinCall pinning.range pinning.brought) ≡ DoneReply }
-    ensures { Steps object result.0 result.1 pinning.by.who pinning.by.epoch (PinCall pinning.range pinning.brought) given.items }
+    ensures { DoesCall object result.0 result.1 pinning.by.who pinning.by.epoch (PinCall pinning.range pinning.brought) given.items }
 {
     let entry = pinning.by.entry(pinning.call(), Reply::Done);
     let first = first_of(pinning.range);
     let end = end_of(pinning.range);
-    let _ = object.size();
+    object.is_legal();
     match open(
         object,
         pinning.alloc,

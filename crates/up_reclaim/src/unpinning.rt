@@ -1,14 +1,13 @@
-ghost use Rattle.std.specs.Prelude.{◌≡◌, ℕ, ◌+◌, [], true, None, IfOk, IfErr, OnOk, OnErr};
-ghost use Rattle.up_bank.specs.declared.kind.FrameKind.{FrameKind as FrameKindValue};
-ghost use Rattle.up_pages.specs.Frames.{count_kind};
+ghost use Rattle.std.specs.Prelude.{◌≡◌, ◌+◌, [], true, None, IfOk, IfErr, OnOk, OnErr};
 ghost use Rattle.up_model.specs.Attempts.{accepts};
 ghost use Rattle.up_model.specs.Size.{range_fits};
 ghost use Rattle.up_model.specs.declared.entry.Call.TheVariants.{Unpin as UnpinCall};
 ghost use Rattle.up_model.specs.declared.entry.Reply.TheVariants.{Refused as RefusedReply};
 ghost use Rattle.up_model.specs.Reply as replies;
 ghost use Rattle.up_object.specs.Change.{AllOwn};
-ghost use Rattle.up_object.specs.Whole.{after, held};
-ghost use Rattle.up_object.specs.Steps.{Steps, further};
+ghost use Rattle.up_object.specs.Whole.{after};
+ghost use Rattle.up_object.specs.Answered.{RepliesAsDue, FramesBalance};
+ghost use Rattle.up_object.specs.OneCall.{DoesCall, further};
 
 use core::mem::replace_with;
 use std::alloc::Global;
@@ -22,9 +21,9 @@ use up_pages::Frames;
 /// Takes one pin off each page of a range. It answers `Done`; `Refused(Range)` past the object's end; or `Refused(Unpinned)` with the
 /// first page that has no pin.
 pub fn unpin(object: &mut Object, alloc: Global, who: u32, epoch: u64, range: PageRange) -> Step
-    ensures reply { IfOk result (λ s. s.reply ≡ replies.reply object.old.birth object.old.journal who epoch (UnpinCall range)) }
+    ensures reply { RepliesAsDue object.old who epoch (UnpinCall range) result }
     ensures object { OnOk result (object.new ≡ after object.old who epoch (UnpinCall range)) }
-    ensures frames { IfOk result (λ s. (k : FrameKindValue) → count_kind k s.back.items + held object.new.birth object.new.journal k ≡ count_kind k [] + held object.old.birth object.old.journal k) }
+    ensures frames { FramesBalance object.old object.new [] result }
     ensures own { IfOk result (λ s. AllOwn object.old.banks s.back.items) }
     ensures same { OnErr result (object.new ≡ object.old) }
     ensures back { IfErr result (λ failed. failed.1.items ≡ []) }
@@ -49,7 +48,7 @@ impl Unpinning {
 
     fn refuse(self, object: Object, why: Refusal) -> (Object, Step)
         requires { replies.reply object.birth object.journal self.by.who self.by.epoch (UnpinCall self.range) ≡ RefusedReply why }
-        ensures { Steps object result.0 result.1 self.by.who self.by.epoch (UnpinCall self.range) [] }
+        ensures { DoesCall object result.0 result.1 self.by.who self.by.epoch (UnpinCall self.range) [] }
     {
         let none = Frames::new(self.alloc);
         decline(
@@ -65,7 +64,7 @@ impl Unpinning {
 }
 
 fn unpin_by(object: Object, unpinning: Unpinning) -> (Object, Step)
-    ensures { Steps object result.0 result.1 unpinning.by.who unpinning.by.epoch (UnpinCall unpinning.range) [] }
+    ensures { DoesCall object result.0 result.1 unpinning.by.who unpinning.by.epoch (UnpinCall unpinning.range) [] }
 {
     if !object.has_range(unpinning.range) {
         return unpinning.refuse(object, Refusal::Range);
@@ -80,7 +79,7 @@ fn unpin_by(object: Object, unpinning: Unpinning) -> (Object, Step)
 fn unpin_pages(object: Object, unpinning: Unpinning) -> (Object, Step)
     requires fits { range_fits object.birth object.journal unpinning.range ≡ true }
     requires pinned { replies.first_in (replies.is_unpinned object.journal) unpinning.range ≡ None }
-    ensures { Steps object result.0 result.1 unpinning.by.who unpinning.by.epoch (UnpinCall unpinning.range) [] }
+    ensures { DoesCall object result.0 result.1 unpinning.by.who unpinning.by.epoch (UnpinCall unpinning.range) [] }
 {
     let entry = unpinning.by.entry(unpinning.call(), Reply::Done);
     let first = first_of(unpinning.range);

@@ -1,15 +1,14 @@
-ghost use Rattle.std.specs.Prelude.{◌≡◌, ℕ, ◌+◌, ◌<◌, ◌≤◌, true, false, length, slice_index_or, IfOk, IfErr, OnOk, OnErr};
-ghost use Rattle.up_bank.specs.declared.kind.FrameKind.{FrameKind as FrameKindValue};
+ghost use Rattle.std.specs.Prelude.{◌≡◌, ℕ, ◌<◌, ◌≤◌, true, false, length, slice_index_or, IfOk, IfErr, OnOk, OnErr};
 ghost use Rattle.up_bank.specs.declared.kind.FrameKind.TheVariants.{Ordinary as OrdinaryKind};
-ghost use Rattle.up_pages.specs.Frames.{count_kind};
 ghost use Rattle.up_model.specs.Size.{size};
 ghost use Rattle.up_model.specs.Legal.{Legal};
 ghost use Rattle.up_model.specs.declared.entry.Call.TheVariants.{Vacate as VacateCall};
 ghost use Rattle.up_model.specs.Reply as replies;
 ghost use Rattle.up_object.specs.Parts.{bank_of, is_loan};
 ghost use Rattle.up_object.specs.Change.{AllAre, AllOwn, next_using};
-ghost use Rattle.up_object.specs.Whole.{after, held};
-ghost use Rattle.up_object.specs.Steps.{Steps, brought_of, frames_of, declined_reply, further};
+ghost use Rattle.up_object.specs.Whole.{after};
+ghost use Rattle.up_object.specs.Answered.{RepliesAsDue, FramesBalance};
+ghost use Rattle.up_object.specs.OneCall.{DoesCall, brought_of, frames_of, declined_reply, further};
 ghost use Rattle.up_reclaim.specs.Loans.{fate_at, is_moved, Meets, vacated};
 ghost use Rattle.up_reclaim.specs.declared.loans.Fate.TheVariants.{Stays as StaysFate};
 
@@ -27,9 +26,9 @@ use up_pages::Frames;
 /// it lacks: `Refused(NoFrames)` after a scan, or `Needs` with the number of frames.
 pub fn vacate(object: &mut Object, alloc: Global, who: u32, epoch: u64, frames: FramesIn) -> Step
     requires own { AllAre (bank_of object.old.banks OrdinaryKind) (frames_of frames) }
-    ensures reply { IfOk result (λ s. s.reply ≡ replies.reply object.old.birth object.old.journal who epoch (VacateCall (brought_of frames))) }
+    ensures reply { RepliesAsDue object.old who epoch (VacateCall (brought_of frames)) result }
     ensures object { OnOk result (object.new ≡ after object.old who epoch (VacateCall (brought_of frames))) }
-    ensures frames { IfOk result (λ s. (k : FrameKindValue) → count_kind k s.back.items + held object.new.birth object.new.journal k ≡ count_kind k (frames_of frames) + held object.old.birth object.old.journal k) }
+    ensures frames { FramesBalance object.old object.new (frames_of frames) result }
     ensures own { IfOk result (λ s. AllOwn object.old.banks s.back.items) }
     ensures same { OnErr result (object.new ≡ object.old) }
     ensures back { IfErr result (λ failed. failed.1.items ≡ frames_of frames) }
@@ -61,7 +60,7 @@ impl Vacating {
         requires own { AllAre (bank_of object.banks OrdinaryKind) given.items }
         requires some { replies.counts_frames self.brought ≡ true }
         requires due { replies.reply object.birth object.journal self.by.who self.by.epoch (VacateCall self.brought) ≡ declined_reply why }
-        ensures { Steps object result.0 result.1 self.by.who self.by.epoch (VacateCall self.brought) given.items }
+        ensures { DoesCall object result.0 result.1 self.by.who self.by.epoch (VacateCall self.brought) given.items }
     {
         decline(
             object,
@@ -79,7 +78,7 @@ fn vacate_by(object: Object, load: (Vacating, Frames)) -> (Object, Step)
     requires own { AllAre (bank_of object.banks OrdinaryKind) load.1.items }
     requires some { replies.counts_frames load.0.brought ≡ true }
     requires count { length load.1.items ≡ replies.frames_in load.0.brought }
-    ensures { Steps object result.0 result.1 load.0.by.who load.0.by.epoch (VacateCall load.0.brought) load.1.items }
+    ensures { DoesCall object result.0 result.1 load.0.by.who load.0.by.epoch (VacateCall load.0.brought) load.1.items }
 {
     let (vacating, given) = load;
     let count = count_firm(&object);
@@ -95,7 +94,7 @@ fn vacate_all(object: Object, vacating: Vacating, given: Frames) -> (Object, Ste
     requires some { replies.counts_frames vacating.brought ≡ true }
     requires enough { length (replies.pages_where object.birth object.journal (replies.loaned_firm object.birth object.journal)) ≤ length given.items }
     requires due { replies.reply object.birth object.journal vacating.by.who vacating.by.epoch (VacateCall vacating.brought) ≡ vacated object.birth object.journal }
-    ensures { Steps object result.0 result.1 vacating.by.who vacating.by.epoch (VacateCall vacating.brought) given.items }
+    ensures { DoesCall object result.0 result.1 vacating.by.who vacating.by.epoch (VacateCall vacating.brought) given.items }
 {
     let noted = match vacated_reply(&object, vacating.alloc) {
         Ok(noted) => noted,
@@ -109,38 +108,43 @@ fn vacate_all(object: Object, vacating: Vacating, given: Frames) -> (Object, Ste
         Ok(fates) => fates,
         Err(memory) => return (object, Err((memory, given))),
     };
-    let plan = Plan {
+    let answer = VacateAnswer {
         noted,
         reply,
         fates,
     };
-    vacate_pages(object, vacating, given, plan)
+    vacate_pages(object, vacating, given, answer)
 }
 
 /// The reply for the entry, and for the caller, and what becomes of each page.
 #[derive(Drop)]
-struct Plan {
+struct VacateAnswer {
     noted: Reply,
     reply: Reply,
     fates: Vec<Fate>,
 }
 
-fn vacate_pages(object: Object, vacating: Vacating, given: Frames, plan: Plan) -> (Object, Step)
+fn vacate_pages(
+    object: Object,
+    vacating: Vacating,
+    given: Frames,
+    answer: VacateAnswer,
+) -> (Object, Step)
     requires own { AllAre (bank_of object.banks OrdinaryKind) given.items }
     requires some { replies.counts_frames vacating.brought ≡ true }
     requires enough { length (replies.pages_where object.birth object.journal (replies.loaned_firm object.birth object.journal)) ≤ length given.items }
     requires due { replies.reply object.birth object.journal vacating.by.who vacating.by.epoch (VacateCall vacating.brought) ≡ vacated object.birth object.journal }
-    requires noted { plan.noted ≡ vacated object.birth object.journal }
-    requires same { plan.reply ≡ vacated object.birth object.journal }
-    requires sized { length plan.fates.items ≡ size object.birth object.journal }
-    requires fates { (p : ℕ) → p < size object.birth object.journal → slice_index_or plan.fates.items p StaysFate ≡ fate_at object.birth object.journal p }
-    ensures { Steps object result.0 result.1 vacating.by.who vacating.by.epoch (VacateCall vacating.brought) given.items }
+    requires noted { answer.noted ≡ vacated object.birth object.journal }
+    requires same { answer.reply ≡ vacated object.birth object.journal }
+    requires sized { length answer.fates.items ≡ size object.birth object.journal }
+    requires fates { (p : ℕ) → p < size object.birth object.journal → slice_index_or answer.fates.items p StaysFate ≡ fate_at object.birth object.journal p }
+    ensures { DoesCall object result.0 result.1 vacating.by.who vacating.by.epoch (VacateCall vacating.brought) given.items }
 {
-    let Plan {
+    let VacateAnswer {
         noted,
         reply,
         fates,
-    } = plan;
+    } = answer;
     let entry = vacating.by.entry(vacating.call(), noted);
     let end = object.size();
     match open(

@@ -21,9 +21,9 @@ use Rattle.up_model.specs.declared.entry.Call.TheVariants as calls
 use Rattle.up_model.specs.declared.entry.Entry.{Entry}
 use Rattle.up_model.proofs.Passed.{none_passes}
 use Rattle.up_model.proofs.Resolved.{accepted_asked, happens_accepted}
-use Rattle.up_model.proofs.Steps.{changes_roles, detached_kept}
-use Rattle.up_model.proofs.Touching.{growth_blanks, cut_vanishes}
-use Rattle.up_object.specs.Change.{Change, Done, Rests}
+use Rattle.up_model.proofs.OneEntryMore.{changes_roles, detached_kept}
+use Rattle.up_model.proofs.PagesTouched.{growth_blanks, cut_vanishes}
+use Rattle.up_object.specs.Change.{Change, CallProgress, Rests}
 use Rattle.up_size.specs.Sizes.{over, pinned_past}
 use Rattle.up_size.proofs.Events.{unasked_outside}
 
@@ -65,7 +65,7 @@ pub growth_leaves : (birth : Birth) (e : Entry) (h : List Entry) (pages first p 
 growth_leaves birth e h pages first p c a from more out =
     rw (c, a) (outside_both pages (size birth h) p (subst (λ (n : ℕ). n ≤ pages) from more) (subst (λ (n : ℕ). (nat_le n p && nat_lt p pages) ≡ false) from out))
 
-pub growth_rests : (birth : Birth) (e : Entry) (h : List Entry) (pages first : ℕ) (done : Done) (p : ℕ) → e.call ≡ calls.Resize pages → accepts e.reply ≡ true → is_packet e.reply ≡ false → size birth h ≤ pages →
+pub growth_rests : (birth : Birth) (e : Entry) (h : List Entry) (pages first : ℕ) (done : CallProgress) (p : ℕ) → e.call ≡ calls.Resize pages → accepts e.reply ≡ true → is_packet e.reply ≡ false → size birth h ≤ pages →
     done.first ≡ first → done.mark ≡ pages → (nat_le first p && nat_lt p pages) ≡ false → Rests birth e h done p
 growth_rests birth e h pages first done p c a n more from to out = record {
   undone = (λ i. nat_le (from i) p && nat_lt p (to i)) ∙ out;

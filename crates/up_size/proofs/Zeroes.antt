@@ -13,9 +13,9 @@ use Rattle.up_model.specs.declared.entry.Birth.{Birth}
 use Rattle.up_model.specs.declared.entry.Call.{Call}
 use Rattle.up_model.specs.declared.entry.Call.TheVariants as calls
 use Rattle.up_model.specs.declared.entry.Entry.{Entry}
-use Rattle.up_model.proofs.Steps.{changes_roles, detached_kept}
-use Rattle.up_model.proofs.Touching.{zero_blanks}
-use Rattle.up_object.specs.Change.{Done, is_done, Rests}
+use Rattle.up_model.proofs.OneEntryMore.{changes_roles, detached_kept}
+use Rattle.up_model.proofs.PagesTouched.{zero_blanks}
+use Rattle.up_object.specs.Change.{CallProgress, is_done, Rests}
 use Rattle.up_size.specs.Sizes.{over}
 use Rattle.up_size.proofs.Events.{unasked_outside}
 
@@ -36,7 +36,7 @@ pub zeroed : (birth : Birth) (e : Entry) (h : List Entry) (range : Span) (first 
 zeroed birth e h range first limit c a from to p low below = zero_blanks birth e h range p c a (inside range p (omega arith) (omega arith))
 
 -- the call is done with just the pages of a range
-pub is_over : (done : Done) (range : Span) (p : ℕ) → done.first ≡ range.first → done.mark ≡ range.first + range.count → is_done done p ≡ covers range p
+pub is_over : (done : CallProgress) (range : Span) (p : ℕ) → done.first ≡ range.first → done.mark ≡ range.first + range.count → is_done done p ≡ covers range p
 is_over done range p from to = λ i. nat_le (from i) p && nat_lt p (to i)
 
 -- other pages aren't concerned
@@ -44,7 +44,7 @@ pub zero_leaves : (birth : Birth) (e : Entry) (h : List Entry) (range : Span) (p
 zero_leaves birth e h range p c a out = rw (c, a, out) refl
 
 -- and keep their places
-pub zero_rests : (birth : Birth) (e : Entry) (h : List Entry) (range : Span) (done : Done) (p : ℕ) → e.call ≡ calls.Zero range → accepts e.reply ≡ true → is_packet e.reply ≡ false →
+pub zero_rests : (birth : Birth) (e : Entry) (h : List Entry) (range : Span) (done : CallProgress) (p : ℕ) → e.call ≡ calls.Zero range → accepts e.reply ≡ true → is_packet e.reply ≡ false →
     done.first ≡ range.first → done.mark ≡ range.first + range.count → covers range p ≡ false → Rests birth e h done p
 zero_rests birth e h range done p c a n from to out = record {
   undone = is_over done range p from to ∙ out;

@@ -1,11 +1,11 @@
-ghost use Rattle.std.specs.Prelude.{◌≡◌, ◌<◌, [], Some, None};
+ghost use Rattle.std.specs.Prelude.{◌≡◌, ◌<◌, [], None};
 ghost use Rattle.up_model.specs.Size as sizes;
 ghost use Rattle.up_model.specs.Tickets.{woken};
 ghost use Rattle.up_model.specs.Pages.{first_page};
 ghost use Rattle.up_model.specs.Reply as replies;
 ghost use Rattle.up_model.specs.declared.entry.Call.TheVariants.{Resize as ResizeCall};
 ghost use Rattle.up_model.specs.declared.entry.Reply.TheVariants.{Woke};
-ghost use Rattle.up_object.specs.Steps.{Steps};
+ghost use Rattle.up_object.specs.OneCall.{DoesCall};
 ghost use Rattle.up_size.specs.Sizes.{pinned_past};
 
 use crate::resizing::{Resizing, range_between};
@@ -23,7 +23,7 @@ pub(crate) fn cut(object: Object, resizing: Resizing, size: u32) -> (Object, Ste
     requires less { resizing.pages < size }
     requires unpinned { first_page (pinned_past object.journal resizing.pages) 0 (sizes.size object.birth object.journal) ≡ None }
     requires due { replies.reply object.birth object.journal resizing.by.who resizing.by.epoch (ResizeCall resizing.pages) ≡ Woke (woken object.birth object.journal (ResizeCall resizing.pages)) }
-    ensures { Steps object result.0 result.1 resizing.by.who resizing.by.epoch (ResizeCall resizing.pages) [] }
+    ensures { DoesCall object result.0 result.1 resizing.by.who resizing.by.epoch (ResizeCall resizing.pages) [] }
 {
     let alloc = resizing.alloc;
     let range = range_between(resizing.pages, size);
@@ -49,7 +49,7 @@ fn cut_pages(
     requires unpinned { first_page (pinned_past object.journal resizing.pages) 0 (sizes.size object.birth object.journal) ≡ None }
     requires due { replies.reply object.birth object.journal resizing.by.who resizing.by.epoch (ResizeCall resizing.pages) ≡ Woke woke }
     requires notes { noted ≡ woke }
-    ensures { Steps object result.0 result.1 resizing.by.who resizing.by.epoch (ResizeCall resizing.pages) [] }
+    ensures { DoesCall object result.0 result.1 resizing.by.who resizing.by.epoch (ResizeCall resizing.pages) [] }
 {
     let alloc = resizing.alloc;
     let pages = resizing.pages;

@@ -1,10 +1,10 @@
-ghost use Rattle.std.specs.Prelude.{◌≡◌, ◌<◌, ◌≤◌, [], Some, None};
+ghost use Rattle.std.specs.Prelude.{◌≡◌, ◌≤◌, []};
 ghost use Rattle.up_model.specs.Size as sizes;
 ghost use Rattle.up_model.specs.Tickets.{woken};
 ghost use Rattle.up_model.specs.Reply as replies;
 ghost use Rattle.up_model.specs.declared.entry.Call.TheVariants.{Resize as ResizeCall};
 ghost use Rattle.up_model.specs.declared.entry.Reply.TheVariants.{Woke};
-ghost use Rattle.up_object.specs.Steps.{Steps};
+ghost use Rattle.up_object.specs.OneCall.{DoesCall};
 
 use crate::blanking::blank_all;
 use crate::resizing::Resizing;
@@ -18,7 +18,7 @@ pub(crate) fn grow(object: Object, resizing: Resizing, size: u32) -> (Object, St
     requires size { size ≡ sizes.size object.birth object.journal }
     requires more { size ≤ resizing.pages }
     requires due { replies.reply object.birth object.journal resizing.by.who resizing.by.epoch (ResizeCall resizing.pages) ≡ Woke (woken object.birth object.journal (ResizeCall resizing.pages)) }
-    ensures { Steps object result.0 result.1 resizing.by.who resizing.by.epoch (ResizeCall resizing.pages) [] }
+    ensures { DoesCall object result.0 result.1 resizing.by.who resizing.by.epoch (ResizeCall resizing.pages) [] }
 {
     let alloc = resizing.alloc;
     let Ok(woke) = object.waking(alloc, &[]) else {
@@ -42,7 +42,7 @@ fn grow_pages(
     requires more { size ≤ resizing.pages }
     requires due { replies.reply object.birth object.journal resizing.by.who resizing.by.epoch (ResizeCall resizing.pages) ≡ Woke woke }
     requires notes { noted ≡ woke }
-    ensures { Steps object result.0 result.1 resizing.by.who resizing.by.epoch (ResizeCall resizing.pages) [] }
+    ensures { DoesCall object result.0 result.1 resizing.by.who resizing.by.epoch (ResizeCall resizing.pages) [] }
 {
     let alloc = resizing.alloc;
     let pages = resizing.pages;

@@ -1,6 +1,4 @@
-ghost use Rattle.std.specs.Prelude.{◌≡◌, ◌+◌, ◌-◌, ◌<◌, ◌≤◌, [], Some, None, IfOk, IfErr, OnOk, OnErr, IsNone};
-ghost use Rattle.up_bank.specs.declared.kind.FrameKind.{FrameKind as FrameKindValue};
-ghost use Rattle.up_pages.specs.Frames.{count_kind};
+ghost use Rattle.std.specs.Prelude.{◌≡◌, ◌-◌, ◌<◌, [], Some, None, IfOk, IfErr, OnOk, OnErr, IsNone};
 ghost use Rattle.up_model.specs.Size as sizes;
 ghost use Rattle.up_model.specs.Tickets.{woken};
 ghost use Rattle.up_model.specs.Pages.{first_page};
@@ -8,8 +6,9 @@ ghost use Rattle.up_model.specs.Reply as replies;
 ghost use Rattle.up_model.specs.declared.entry.Call.TheVariants.{Resize as ResizeCall};
 ghost use Rattle.up_model.specs.declared.entry.Reply.TheVariants.{Woke};
 ghost use Rattle.up_object.specs.Change.{AllOwn};
-ghost use Rattle.up_object.specs.Whole.{after, held};
-ghost use Rattle.up_object.specs.Steps.{Steps};
+ghost use Rattle.up_object.specs.Whole.{after};
+ghost use Rattle.up_object.specs.Answered.{RepliesAsDue, FramesBalance};
+ghost use Rattle.up_object.specs.OneCall.{DoesCall};
 ghost use Rattle.up_size.specs.Sizes.{or_refused, pinned_past};
 
 use crate::cutting::cut;
@@ -26,9 +25,9 @@ use up_pages::Frames;
 /// `Woke` with the tickets of those who waited for a page that is cut off; or why it is refused: `Fixed` where the object's
 /// size is fixed, `Range` above its limit, or `Pinned` with the first page with a pin that would be cut off.
 pub fn resize(object: &mut Object, alloc: Global, who: u32, epoch: u64, pages: u32) -> Step
-    ensures reply { IfOk result (λ s. s.reply ≡ replies.reply object.old.birth object.old.journal who epoch (ResizeCall pages)) }
+    ensures reply { RepliesAsDue object.old who epoch (ResizeCall pages) result }
     ensures object { OnOk result (object.new ≡ after object.old who epoch (ResizeCall pages)) }
-    ensures frames { IfOk result (λ s. (kind : FrameKindValue) → count_kind kind s.back.items + held object.new.birth object.new.journal kind ≡ held object.old.birth object.old.journal kind) }
+    ensures frames { FramesBalance object.old object.new [] result }
     ensures own { IfOk result (λ s. AllOwn object.old.banks s.back.items) }
     ensures same { OnErr result (object.new ≡ object.old) }
     ensures back { IfErr result (λ failed. failed.1.items ≡ []) }
@@ -53,7 +52,7 @@ impl Resizing {
 }
 
 fn resize_to(object: Object, resizing: Resizing) -> (Object, Step)
-    ensures { Steps object result.0 result.1 resizing.by.who resizing.by.epoch (ResizeCall resizing.pages) [] }
+    ensures { DoesCall object result.0 result.1 resizing.by.who resizing.by.epoch (ResizeCall resizing.pages) [] }
 {
     let alloc = resizing.alloc;
     let Some(why) = refusal(&object, resizing.pages) else {
@@ -115,7 +114,7 @@ pub(crate) fn range_between(first: u32, end: u32) -> PageRange
 fn resize_waking(object: Object, resizing: Resizing) -> (Object, Step)
     requires due { replies.reply object.birth object.journal resizing.by.who resizing.by.epoch (ResizeCall resizing.pages) ≡ Woke (woken object.birth object.journal (ResizeCall resizing.pages)) }
     requires unpinned { first_page (pinned_past object.journal resizing.pages) 0 (sizes.size object.birth object.journal) ≡ None }
-    ensures { Steps object result.0 result.1 resizing.by.who resizing.by.epoch (ResizeCall resizing.pages) [] }
+    ensures { DoesCall object result.0 result.1 resizing.by.who resizing.by.epoch (ResizeCall resizing.pages) [] }
 {
     let size = object.size();
     if size <= resizing.pages {

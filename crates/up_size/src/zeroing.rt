@@ -1,7 +1,5 @@
-ghost use Rattle.std.specs.Prelude.{◌≡◌, ℕ, ◌+◌, not, [], true, IfOk, IfErr, OnOk, OnErr, IsNone};
+ghost use Rattle.std.specs.Prelude.{◌≡◌, not, [], true, IfOk, IfErr, OnOk, OnErr, IsNone};
 ghost use Rattle.up_num.specs.declared.answers.Refusal.TheVariants as refusals;
-ghost use Rattle.up_bank.specs.declared.kind.FrameKind.{FrameKind as FrameKindValue};
-ghost use Rattle.up_pages.specs.Frames.{count_kind};
 ghost use Rattle.up_model.specs.Size.{range_fits};
 ghost use Rattle.up_model.specs.Tickets.{woken};
 ghost use Rattle.up_model.specs.Reply as replies;
@@ -9,8 +7,9 @@ ghost use Rattle.up_model.specs.declared.entry.Call.TheVariants.{Zero as ZeroCal
 ghost use Rattle.up_model.specs.declared.entry.Reply.{Reply as ReplyValue};
 ghost use Rattle.up_model.specs.declared.entry.Reply.TheVariants.{Woke};
 ghost use Rattle.up_object.specs.Change.{AllOwn};
-ghost use Rattle.up_object.specs.Whole.{after, held};
-ghost use Rattle.up_object.specs.Steps.{Steps};
+ghost use Rattle.up_object.specs.Whole.{after};
+ghost use Rattle.up_object.specs.Answered.{RepliesAsDue, FramesBalance};
+ghost use Rattle.up_object.specs.OneCall.{DoesCall};
 ghost use Rattle.up_size.specs.Sizes.{or_refused};
 
 use crate::blanking::blank_all;
@@ -27,9 +26,9 @@ use up_pages::Frames;
 /// Makes the pages of a range zeros that need no frame. It answers `Woke` with the tickets of those who waited for one of them; or why
 /// it is refused: `Range`, or `Pinned` with the first page that has a pin.
 pub fn zero(object: &mut Object, alloc: Global, who: u32, epoch: u64, range: PageRange) -> Step
-    ensures reply { IfOk result (λ s. s.reply ≡ replies.reply object.old.birth object.old.journal who epoch (ZeroCall range)) }
+    ensures reply { RepliesAsDue object.old who epoch (ZeroCall range) result }
     ensures object { OnOk result (object.new ≡ after object.old who epoch (ZeroCall range)) }
-    ensures frames { IfOk result (λ s. (kind : FrameKindValue) → count_kind kind s.back.items + held object.new.birth object.new.journal kind ≡ held object.old.birth object.old.journal kind) }
+    ensures frames { FramesBalance object.old object.new [] result }
     ensures own { IfOk result (λ s. AllOwn object.old.banks s.back.items) }
     ensures same { OnErr result (object.new ≡ object.old) }
     ensures back { IfErr result (λ failed. failed.1.items ≡ []) }
@@ -54,7 +53,7 @@ impl Zeroing {
 }
 
 fn zero_range(object: Object, zeroing: Zeroing) -> (Object, Step)
-    ensures { Steps object result.0 result.1 zeroing.by.who zeroing.by.epoch (ZeroCall zeroing.range) [] }
+    ensures { DoesCall object result.0 result.1 zeroing.by.who zeroing.by.epoch (ZeroCall zeroing.range) [] }
 {
     let alloc = zeroing.alloc;
     let Some(why) = refusal(&object, zeroing.range) else {
@@ -92,7 +91,7 @@ fn refusal(object: &Object, range: PageRange) -> Option<Refusal>
 fn zero_waking(object: Object, zeroing: Zeroing) -> (Object, Step)
     requires fits { range_fits object.birth object.journal zeroing.range ≡ true }
     requires due { replies.reply object.birth object.journal zeroing.by.who zeroing.by.epoch (ZeroCall zeroing.range) ≡ Woke (woken object.birth object.journal (ZeroCall zeroing.range)) }
-    ensures { Steps object result.0 result.1 zeroing.by.who zeroing.by.epoch (ZeroCall zeroing.range) [] }
+    ensures { DoesCall object result.0 result.1 zeroing.by.who zeroing.by.epoch (ZeroCall zeroing.range) [] }
 {
     let alloc = zeroing.alloc;
     let Ok(woke) = waking_over(&object, alloc, zeroing.range, Outcome::Freed) else {
@@ -109,7 +108,7 @@ fn zero_pages(object: Object, zeroing: Zeroing, woke: Woken, noted: Woken) -> (O
     requires fits { range_fits object.birth object.journal zeroing.range ≡ true }
     requires due { replies.reply object.birth object.journal zeroing.by.who zeroing.by.epoch (ZeroCall zeroing.range) ≡ Woke woke }
     requires notes { noted ≡ woke }
-    ensures { Steps object result.0 result.1 zeroing.by.who zeroing.by.epoch (ZeroCall zeroing.range) [] }
+    ensures { DoesCall object result.0 result.1 zeroing.by.who zeroing.by.epoch (ZeroCall zeroing.range) [] }
 {
     let alloc = zeroing.alloc;
     let none = Frames::new(alloc);

@@ -5,7 +5,7 @@ use Rattle.std.proofs.lemmas.List.{get_or-take, get_or-drop}
 use Rattle.up_num.specs.Span.{Span, covers}
 use Rattle.up_model.specs.Looks.{Missing, look_of, is_present}
 use Rattle.up_model.specs.Changes.{SamePage, Fills}
-use Rattle.up_model.proofs.Touching.{supply_fills, supply_keeps}
+use Rattle.up_model.proofs.PagesTouched.{supply_fills, supply_keeps}
 use Rattle.up_pages.specs.declared.page.Look.{Look}
 use Rattle.up_pages.specs.declared.page.Look.TheVariants as looks
 use Rattle.up_object.specs.Parts.{shown}

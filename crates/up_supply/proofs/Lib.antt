@@ -1,6 +1,6 @@
 pub mod Refused
 pub mod Waking
 pub mod Filled
-pub mod Cut
-pub mod Left
-pub mod Handed
+pub mod Detaches
+pub mod Leaves
+pub mod PacketsTaken

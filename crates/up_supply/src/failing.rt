@@ -1,7 +1,5 @@
 //! Fails of pages.
-ghost use Rattle.std.specs.Prelude.{◌≡◌, ℕ, ◌+◌, ◌≤◌, [], ◌∷◌, IfOk, IfErr, OnOk, OnErr, Some, None};
-ghost use Rattle.up_bank.specs.declared.kind.FrameKind.{FrameKind as FrameKindValue};
-ghost use Rattle.up_pages.specs.Frames.{count_kind};
+ghost use Rattle.std.specs.Prelude.{◌≡◌, ◌+◌, ◌≤◌, [], ◌∷◌, IfOk, IfErr, OnOk, OnErr, Some, None};
 ghost use Rattle.up_num.specs.declared.answers.Outcome.TheVariants.{Failed as FailedOutcome};
 ghost use Rattle.up_model.specs.declared.entry.Call.TheVariants.{Fail as FailCall};
 ghost use Rattle.up_model.specs.declared.entry.Reply.TheVariants.{Woke as WokeReply};
@@ -9,8 +7,9 @@ ghost use Rattle.up_model.specs.Reply as replies;
 ghost use Rattle.up_model.specs.Size.{size};
 ghost use Rattle.up_model.specs.Tickets.{woken};
 ghost use Rattle.up_object.specs.Change.{AllOwn};
-ghost use Rattle.up_object.specs.Whole.{held, after};
-ghost use Rattle.up_object.specs.Steps.{Steps};
+ghost use Rattle.up_object.specs.Whole.{after};
+ghost use Rattle.up_object.specs.Answered.{RepliesAsDue, FramesBalance};
+ghost use Rattle.up_object.specs.OneCall.{DoesCall};
 ghost use Rattle.up_supply.specs.Calls.{refuses_fail, read_failed, dirty_failed};
 
 use core::mem::replace_with;
@@ -32,9 +31,9 @@ pub fn fail(
     range: PageRange,
     code: Code,
 ) -> Step
-    ensures reply { IfOk result (λ step. step.reply ≡ replies.reply object.old.birth object.old.journal who epoch (FailCall range code)) }
+    ensures reply { RepliesAsDue object.old who epoch (FailCall range code) result }
     ensures object { OnOk result (object.new ≡ after object.old who epoch (FailCall range code)) }
-    ensures frames { IfOk result (λ step. (kind : FrameKindValue) → count_kind kind step.back.items + held object.new.birth object.new.journal kind ≡ held object.old.birth object.old.journal kind) }
+    ensures frames { FramesBalance object.old object.new [] result }
     ensures own { IfOk result (λ step. AllOwn object.old.banks step.back.items) }
     ensures same { OnErr result (object.new ≡ object.old) }
     ensures back { IfErr result (λ failed. failed.1.items ≡ []) }
@@ -97,7 +96,7 @@ impl Failing {
 }
 
 fn fail_pages(object: Object, failing: Failing) -> (Object, Step)
-    ensures { Steps object result.0 result.1 failing.by.who failing.by.epoch (FailCall failing.range failing.code) [] }
+    ensures { DoesCall object result.0 result.1 failing.by.who failing.by.epoch (FailCall failing.range failing.code) [] }
 {
     match refusal_of(&object, &failing) {
         Some(why) => refuse_fail(object, failing, why),
@@ -120,7 +119,7 @@ fn refusal_of(object: &Object, failing: &Failing) -> Option<Refusal>
 
 fn refuse_fail(object: Object, failing: Failing, why: Refusal) -> (Object, Step)
     requires why { refuses_fail object.birth object.journal failing.range ≡ Some why }
-    ensures { Steps object result.0 result.1 failing.by.who failing.by.epoch (FailCall failing.range failing.code) [] }
+    ensures { DoesCall object result.0 result.1 failing.by.who failing.by.epoch (FailCall failing.range failing.code) [] }
 {
     let alloc = failing.alloc;
     let call = failing.call();
@@ -138,7 +137,7 @@ fn refuse_fail(object: Object, failing: Failing, why: Refusal) -> (Object, Step)
 /// The fail is accepted: all who wait for its pages are woken.
 fn wake_failed(object: Object, failing: Failing) -> (Object, Step)
     requires accepted { refuses_fail object.birth object.journal failing.range ≡ None }
-    ensures { Steps object result.0 result.1 failing.by.who failing.by.epoch (FailCall failing.range failing.code) [] }
+    ensures { DoesCall object result.0 result.1 failing.by.who failing.by.epoch (FailCall failing.range failing.code) [] }
 {
     let Ok(answer) = failing.woken(&object) else {
         return (object, Err((Memory {}, Frames::new(failing.alloc))));
@@ -153,7 +152,7 @@ fn fail_and_wake(object: Object, failing: Failing, answer: Woken, noted: Woken) 
     requires fits { failing.range.first + failing.range.count ≤ size object.birth object.journal }
     requires due { replies.reply object.birth object.journal failing.by.who failing.by.epoch (FailCall failing.range failing.code) ≡ WokeReply answer }
     requires noted { noted ≡ answer }
-    ensures { Steps object result.0 result.1 failing.by.who failing.by.epoch (FailCall failing.range failing.code) [] }
+    ensures { DoesCall object result.0 result.1 failing.by.who failing.by.epoch (FailCall failing.range failing.code) [] }
 {
     let alloc = failing.alloc;
     let events = failing.events();

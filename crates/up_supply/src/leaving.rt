@@ -1,14 +1,12 @@
 //! Leaves.
-ghost use Rattle.std.specs.Prelude.{◌≡◌, ℕ, ◌+◌, ◌-◌, ◌<◌, ◌==◌, [], true, false, IfOk, IfErr, OnOk, OnErr, IsOk};
-ghost use Rattle.up_bank.specs.declared.kind.FrameKind.{FrameKind as FrameKindValue};
-ghost use Rattle.up_pages.specs.Frames.{count_kind};
+ghost use Rattle.std.specs.Prelude.{◌≡◌, ◌+◌, ◌-◌, ◌<◌, ◌==◌, [], true, false, IfOk, IfErr, OnOk, OnErr, IsOk};
 ghost use Rattle.up_model.specs.declared.entry.Call.TheVariants.{Leave as LeaveCall};
-ghost use Rattle.up_model.specs.Reply as replies;
 ghost use Rattle.up_model.specs.Roles as roles;
 ghost use Rattle.up_object.specs.Change.{AllOwn};
 ghost use Rattle.up_object.specs.Stands.{leave_calls};
-ghost use Rattle.up_object.specs.Whole.{held, after};
-ghost use Rattle.up_object.specs.Steps.{Steps};
+ghost use Rattle.up_object.specs.Whole.{after};
+ghost use Rattle.up_object.specs.Answered.{RepliesAsDue, FramesBalance};
+ghost use Rattle.up_object.specs.OneCall.{DoesCall};
 ghost use Rattle.up_supply.specs.Calls as calls;
 
 use core::mem::replace_with;
@@ -22,13 +20,14 @@ use up_pages::Frames;
 /// `Refused(Detached)` where nobody has that role any more. While an entry is left of those that birth reserves, one for each user
 /// and pager, it takes no memory.
 pub fn leave(object: &mut Object, alloc: Global, who: u32, epoch: u64, role: Role) -> Step
-    ensures reply { IfOk result (λ step. step.reply ≡ replies.reply object.old.birth object.old.journal who epoch (LeaveCall role)) }
+    ensures reply { RepliesAsDue object.old who epoch (LeaveCall role) result }
     ensures object { OnOk result (object.new ≡ after object.old who epoch (LeaveCall role)) }
-    ensures frames { IfOk result (λ step. (kind : FrameKindValue) → count_kind kind step.back.items + held object.new.birth object.new.journal kind ≡ held object.old.birth object.old.journal kind) }
+    ensures frames { FramesBalance object.old object.new [] result }
     ensures own { IfOk result (λ step. AllOwn object.old.banks step.back.items) }
     ensures same { OnErr result (object.new ≡ object.old) }
     ensures back { IfErr result (λ failed. failed.1.items ≡ []) }
-    ensures reserved { leave_calls object.old.journal < object.old.birth.users + object.old.birth.pagers → IsOk result }
+    ensures reserved { leave_calls object.old.journal < object.old.birth.users + object.old.birth.pagers
+        → IsOk result }
 {
     let by = By { who, epoch };
     replace_with(object, Leaving { alloc, by, role }, leave_role)
@@ -69,7 +68,7 @@ fn count_in(object: &Object, role: Role) -> u32
 }
 
 fn leave_role(object: Object, leaving: Leaving) -> (Object, Step)
-    ensures steps { Steps object result.0 result.1 leaving.by.who leaving.by.epoch (LeaveCall leaving.role) [] }
+    ensures steps { DoesCall object result.0 result.1 leaving.by.who leaving.by.epoch (LeaveCall leaving.role) [] }
     ensures reserved { leave_calls object.journal < object.birth.users + object.birth.pagers → IsOk result.1 }
 {
     let count = count_in(&object, leaving.role);
@@ -85,7 +84,7 @@ fn leave_role(object: Object, leaving: Leaving) -> (Object, Step)
 /// Nobody has this role any more.
 fn refuse_leave(object: Object, leaving: Leaving) -> (Object, Step)
     requires none { roles.in_role object.birth object.journal leaving.role ≡ 0 }
-    ensures steps { Steps object result.0 result.1 leaving.by.who leaving.by.epoch (LeaveCall leaving.role) [] }
+    ensures steps { DoesCall object result.0 result.1 leaving.by.who leaving.by.epoch (LeaveCall leaving.role) [] }
     ensures reserved { leave_calls object.journal < object.birth.users + object.birth.pagers → IsOk result.1 }
 {
     let alloc = leaving.alloc;
@@ -104,7 +103,7 @@ fn refuse_leave(object: Object, leaving: Leaving) -> (Object, Step)
 fn leave_others(object: Object, leaving: Leaving) -> (Object, Step)
     requires some { (roles.in_role object.birth object.journal leaving.role == 0) ≡ false }
     requires stays { roles.detaches object.birth object.journal (LeaveCall leaving.role) ≡ false }
-    ensures steps { Steps object result.0 result.1 leaving.by.who leaving.by.epoch (LeaveCall leaving.role) [] }
+    ensures steps { DoesCall object result.0 result.1 leaving.by.who leaving.by.epoch (LeaveCall leaving.role) [] }
     ensures reserved { leave_calls object.journal < object.birth.users + object.birth.pagers → IsOk result.1 }
 {
     let alloc = leaving.alloc;
@@ -125,7 +124,7 @@ fn leave_others(object: Object, leaving: Leaving) -> (Object, Step)
 fn leave_last(object: Object, leaving: Leaving) -> (Object, Step)
     requires last { roles.in_role object.birth object.journal leaving.role ≡ 1 }
     requires attached { roles.detached object.birth object.journal ≡ false }
-    ensures steps { Steps object result.0 result.1 leaving.by.who leaving.by.epoch (LeaveCall leaving.role) [] }
+    ensures steps { DoesCall object result.0 result.1 leaving.by.who leaving.by.epoch (LeaveCall leaving.role) [] }
     ensures reserved { leave_calls object.journal < object.birth.users + object.birth.pagers → IsOk result.1 }
 {
     let alloc = leaving.alloc;

@@ -1,8 +1,6 @@
 //! Supplies of pages.
 ghost use Rattle.std.specs.Prelude.{◌≡◌, ℕ, ◌+◌, ◌<◌, ◌≤◌, List, length, IsTrue, IfOk, IfErr, OnOk, OnErr, Some, None};
-ghost use Rattle.up_bank.specs.declared.kind.FrameKind.{FrameKind as FrameKindValue};
 ghost use Rattle.up_bank.specs.declared.kind.FrameKind.TheVariants.{Ordinary as OrdinaryKind};
-ghost use Rattle.up_pages.specs.Frames.{count_kind};
 ghost use Rattle.up_model.specs.declared.entry.Call.TheVariants.{Supply as SupplyCall};
 ghost use Rattle.up_model.specs.declared.entry.Reply.TheVariants.{Took as TookReply};
 ghost use Rattle.up_model.specs.Reply as replies;
@@ -10,8 +8,9 @@ ghost use Rattle.up_model.specs.Size.{size};
 ghost use Rattle.up_model.specs.Tickets.{woken};
 ghost use Rattle.up_object.specs.Parts.{bank_of};
 ghost use Rattle.up_object.specs.Change.{AllAre, AllOwn};
-ghost use Rattle.up_object.specs.Whole.{held, after};
-ghost use Rattle.up_object.specs.Steps.{brought_of, frames_of, Steps};
+ghost use Rattle.up_object.specs.Whole.{after};
+ghost use Rattle.up_object.specs.Answered.{RepliesAsDue, FramesBalance};
+ghost use Rattle.up_object.specs.OneCall.{brought_of, frames_of, DoesCall};
 ghost use Rattle.up_supply.specs.Calls.{supply_call, supply_event, refuses_supply, IsFull};
 ghost use Rattle.up_supply.specs.Fillings.{Filling, filled};
 
@@ -38,11 +37,13 @@ pub fn supply(
     bytes: Bytes,
     frames: FramesIn,
 ) -> Step
-    requires proper { IsTrue (replies.proper object.old.birth object.old.journal who (SupplyCall range bytes (brought_of frames))) }
+    requires proper { IsTrue (replies.proper object.old.birth object.old.journal who
+        (SupplyCall range bytes (brought_of frames))) }
     requires own { AllAre (bank_of object.old.banks OrdinaryKind) (frames_of frames) }
-    ensures reply { IfOk result (λ step. step.reply ≡ replies.reply object.old.birth object.old.journal who epoch (SupplyCall range bytes (brought_of frames))) }
-    ensures object { OnOk result (object.new ≡ after object.old who epoch (SupplyCall range bytes (brought_of frames))) }
-    ensures frames { IfOk result (λ step. (kind : FrameKindValue) → count_kind kind step.back.items + held object.new.birth object.new.journal kind ≡ count_kind kind (frames_of frames) + held object.old.birth object.old.journal kind) }
+    ensures reply { RepliesAsDue object.old who epoch (SupplyCall range bytes (brought_of frames)) result }
+    ensures object { OnOk result (object.new
+        ≡ after object.old who epoch (SupplyCall range bytes (brought_of frames))) }
+    ensures frames { FramesBalance object.old object.new (frames_of frames) result }
     ensures own { IfOk result (λ step. AllOwn object.old.banks step.back.items) }
     ensures same { OnErr result (object.new ≡ object.old) }
     ensures back { IfErr result (λ failed. failed.1.items ≡ frames_of frames) }
@@ -103,7 +104,7 @@ fn supply_pages(object: Object, given: (Supplying, Bytes, Frames)) -> (Object, S
     requires proper { IsTrue (replies.proper object.birth object.journal given.0.by.who (supply_call given.0 given.1)) }
     requires own { AllAre (bank_of object.banks OrdinaryKind) given.2.items }
     requires frames { length given.2.items ≡ replies.frames_in given.0.brought }
-    ensures { Steps object result.0 result.1 given.0.by.who given.0.by.epoch (supply_call given.0 given.1) given.2.items }
+    ensures { DoesCall object result.0 result.1 given.0.by.who given.0.by.epoch (supply_call given.0 given.1) given.2.items }
 {
     let (supplying, bytes, frames) = given;
     match refusal_of(&object, &supplying) {
@@ -137,7 +138,7 @@ fn refuse_supply(
     requires proper { IsTrue (replies.proper object.birth object.journal supplying.by.who (supply_call supplying bytes)) }
     requires own { AllAre (bank_of object.banks OrdinaryKind) frames.items }
     requires why { refuses_supply object.birth object.journal supplying ≡ Some why }
-    ensures { Steps object result.0 result.1 supplying.by.who supplying.by.epoch (supply_call supplying bytes) frames.items }
+    ensures { DoesCall object result.0 result.1 supplying.by.who supplying.by.epoch (supply_call supplying bytes) frames.items }
 {
     let call = supplying.call(bytes);
     decline(
@@ -168,7 +169,7 @@ fn fill_range(object: Object, supplying: Supplying, bytes: Bytes, frames: Frames
     requires own { AllAre (bank_of object.banks OrdinaryKind) frames.items }
     requires frames { length frames.items ≡ replies.frames_in supplying.brought }
     requires accepted { refuses_supply object.birth object.journal supplying ≡ None }
-    ensures { Steps object result.0 result.1 supplying.by.who supplying.by.epoch (supply_call supplying bytes) frames.items }
+    ensures { DoesCall object result.0 result.1 supplying.by.who supplying.by.epoch (supply_call supplying bytes) frames.items }
 {
     let Ok(answer) = supplying.woken(&object) else {
         return (object, Err((Memory {}, frames)));
@@ -206,7 +207,7 @@ fn fill_and_wake(
     requires fits { supplying.range.first + supplying.range.count ≤ size object.birth object.journal }
     requires due { replies.reply object.birth object.journal supplying.by.who supplying.by.epoch (supply_call supplying bytes) ≡ TookReply taken.pages taken.answer }
     requires noted { taken.noted ≡ taken.answer }
-    ensures { Steps object result.0 result.1 supplying.by.who supplying.by.epoch (supply_call supplying bytes) frames.items }
+    ensures { DoesCall object result.0 result.1 supplying.by.who supplying.by.epoch (supply_call supplying bytes) frames.items }
 {
     let alloc = supplying.alloc;
     let Taken {
@@ -217,7 +218,7 @@ fn fill_and_wake(
     let Ok(kept) = bytes.copy(alloc) else {
         return (object, Err((Memory {}, frames)));
     };
-    let _ = object.size();
+    object.is_legal();
     let events = [supplying.event()];
     let woke = noted;
     let call = supplying.call(kept);

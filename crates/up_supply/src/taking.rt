@@ -1,14 +1,12 @@
 //! Packets.
-ghost use Rattle.std.specs.Prelude.{◌≡◌, ℕ, ◌+◌, [], IfOk, IfErr, OnOk, OnErr, Some, None, slice_get};
-ghost use Rattle.up_bank.specs.declared.kind.FrameKind.{FrameKind as FrameKindValue};
-ghost use Rattle.up_pages.specs.Frames.{count_kind};
+ghost use Rattle.std.specs.Prelude.{◌≡◌, [], IfOk, IfErr, OnOk, OnErr, Some, None, slice_get};
 ghost use Rattle.up_model.specs.declared.entry.Call.TheVariants.{Packet as PacketCall};
 ghost use Rattle.up_model.specs.declared.entry.Reply.TheVariants.{Packet as PacketReply};
 ghost use Rattle.up_model.specs.Packets as packets;
-ghost use Rattle.up_model.specs.Reply as replies;
 ghost use Rattle.up_object.specs.Change.{AllOwn};
-ghost use Rattle.up_object.specs.Whole.{held, after};
-ghost use Rattle.up_object.specs.Steps.{Steps};
+ghost use Rattle.up_object.specs.Whole.{after};
+ghost use Rattle.up_object.specs.Answered.{RepliesAsDue, FramesBalance};
+ghost use Rattle.up_object.specs.OneCall.{DoesCall};
 
 use core::mem::replace_with;
 use std::alloc::Global;
@@ -22,9 +20,9 @@ use up_pages::Frames;
 /// Takes the next packet. It answers `Empty` where all packets that were sent are taken, and `Finished` once that is so of
 /// the last one, `Complete`.
 pub fn packet(object: &mut Object, alloc: Global, who: u32, epoch: u64) -> Step
-    ensures reply { IfOk result (λ step. step.reply ≡ replies.reply object.old.birth object.old.journal who epoch PacketCall) }
+    ensures reply { RepliesAsDue object.old who epoch PacketCall result }
     ensures object { OnOk result (object.new ≡ after object.old who epoch PacketCall) }
-    ensures frames { IfOk result (λ step. (kind : FrameKindValue) → count_kind kind step.back.items + held object.new.birth object.new.journal kind ≡ held object.old.birth object.old.journal kind) }
+    ensures frames { FramesBalance object.old object.new [] result }
     ensures own { IfOk result (λ step. AllOwn object.old.banks step.back.items) }
     ensures same { OnErr result (object.new ≡ object.old) }
     ensures back { IfErr result (λ failed. failed.1.items ≡ []) }
@@ -48,7 +46,7 @@ impl Taking {
 }
 
 fn take_packet(object: Object, taking: Taking) -> (Object, Step)
-    ensures { Steps object result.0 result.1 taking.by.who taking.by.epoch PacketCall [] }
+    ensures { DoesCall object result.0 result.1 taking.by.who taking.by.epoch PacketCall [] }
 {
     match object.next_packet() {
         None => give_none(object, taking),
@@ -58,7 +56,7 @@ fn take_packet(object: Object, taking: Taking) -> (Object, Step)
 
 fn give_none(object: Object, taking: Taking) -> (Object, Step)
     requires none { slice_get (packets.sent object.birth object.journal) (packets.taken object.journal) ≡ None }
-    ensures { Steps object result.0 result.1 taking.by.who taking.by.epoch PacketCall [] }
+    ensures { DoesCall object result.0 result.1 taking.by.who taking.by.epoch PacketCall [] }
 {
     let alloc = taking.alloc;
     let kind = FrameKind::Ordinary;
@@ -80,7 +78,7 @@ fn packet_reply(packet: &Packet) -> Reply
 
 fn give_packet(object: Object, taking: Taking, packet: Packet) -> (Object, Step)
     requires next { slice_get (packets.sent object.birth object.journal) (packets.taken object.journal) ≡ Some packet }
-    ensures { Steps object result.0 result.1 taking.by.who taking.by.epoch PacketCall [] }
+    ensures { DoesCall object result.0 result.1 taking.by.who taking.by.epoch PacketCall [] }
 {
     let alloc = taking.alloc;
     let entry = taking.entry(packet_reply(&packet));

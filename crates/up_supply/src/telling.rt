@@ -1,12 +1,10 @@
 //! Told facts.
-ghost use Rattle.std.specs.Prelude.{◌≡◌, ℕ, ◌+◌, [], true, IfOk, IfErr, OnOk, OnErr};
-ghost use Rattle.up_bank.specs.declared.kind.FrameKind.{FrameKind as FrameKindValue};
-ghost use Rattle.up_pages.specs.Frames.{count_kind};
+ghost use Rattle.std.specs.Prelude.{◌≡◌, [], true, IfOk, IfErr, OnOk, OnErr};
 ghost use Rattle.up_model.specs.declared.entry.Call.TheVariants.{Tell as TellCall};
-ghost use Rattle.up_model.specs.Reply as replies;
 ghost use Rattle.up_object.specs.Change.{AllOwn};
-ghost use Rattle.up_object.specs.Whole.{held, after};
-ghost use Rattle.up_object.specs.Steps.{Steps};
+ghost use Rattle.up_object.specs.Whole.{after};
+ghost use Rattle.up_object.specs.Answered.{RepliesAsDue, FramesBalance};
+ghost use Rattle.up_object.specs.OneCall.{DoesCall};
 ghost use Rattle.up_supply.specs.Calls.{is_tell};
 
 use core::mem::replace_with;
@@ -18,9 +16,9 @@ use up_pages::Frames;
 
 /// Notes what the sample pager says that it did. It answers `Noted`.
 pub fn tell(object: &mut Object, alloc: Global, who: u32, epoch: u64, told: Told) -> Step
-    ensures reply { IfOk result (λ step. step.reply ≡ replies.reply object.old.birth object.old.journal who epoch (TellCall told)) }
+    ensures reply { RepliesAsDue object.old who epoch (TellCall told) result }
     ensures object { OnOk result (object.new ≡ after object.old who epoch (TellCall told)) }
-    ensures frames { IfOk result (λ step. (kind : FrameKindValue) → count_kind kind step.back.items + held object.new.birth object.new.journal kind ≡ held object.old.birth object.old.journal kind) }
+    ensures frames { FramesBalance object.old object.new [] result }
     ensures own { IfOk result (λ step. AllOwn object.old.banks step.back.items) }
     ensures same { OnErr result (object.new ≡ object.old) }
     ensures back { IfErr result (λ failed. failed.1.items ≡ []) }
@@ -39,7 +37,7 @@ struct Telling {
 
 fn note_told(object: Object, telling: Telling) -> (Object, Step)
     requires tells { is_tell telling.call ≡ true }
-    ensures { Steps object result.0 result.1 telling.by.who telling.by.epoch telling.call [] }
+    ensures { DoesCall object result.0 result.1 telling.by.who telling.by.epoch telling.call [] }
 {
     let Telling { alloc, by, call } = telling;
     match call {
@@ -49,7 +47,7 @@ fn note_told(object: Object, telling: Telling) -> (Object, Step)
 }
 
 fn note_fact(object: Object, alloc: Global, by: By, told: Told) -> (Object, Step)
-    ensures { Steps object result.0 result.1 by.who by.epoch (TellCall told) [] }
+    ensures { DoesCall object result.0 result.1 by.who by.epoch (TellCall told) [] }
 {
     let entry = by.entry(Call::Tell(told), Reply::Noted);
     note_with(

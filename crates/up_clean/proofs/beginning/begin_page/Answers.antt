@@ -1,5 +1,5 @@
 use Rattle.up_model.specs.Looks.{begun_look}
-use Rattle.up_model.proofs.Touching.{begin_turns}
+use Rattle.up_model.proofs.PagesTouched.{begin_turns}
 use Rattle.up_clean.proofs.Pages.{turned_is_set}
 use Rattle.up_clean.proofs.beginning.begin_page.Goals as goal
 

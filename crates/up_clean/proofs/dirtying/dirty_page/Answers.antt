@@ -1,4 +1,4 @@
-use Rattle.up_model.proofs.Touching.{dirty_lets}
+use Rattle.up_model.proofs.PagesTouched.{dirty_lets}
 use Rattle.up_clean.proofs.dirtying.dirty_page.Goals as goal
 
 pub dirty-requires-clause-dirties : goal.dirty-requires-clause-dirties

@@ -1,6 +1,6 @@
 use Rattle.std.proofs.Common.{◌≡◌, ◌<◌, ◌+◌, ◌-◌, arith}
 use Rattle.up_span.specs.Pages.{count_pages}
-use Rattle.up_object.proofs.Ranged.{covered_at}
+use Rattle.up_object.proofs.RangeCalls.{covered_at}
 use Rattle.up_clean.specs.Dirties.{lent}
 use Rattle.up_clean.proofs.Counts.{none_used, Underway, underway_frame, underway_at, underway_enough}
 use Rattle.up_clean.proofs.dirtying.dirty_pages.Goals as goal

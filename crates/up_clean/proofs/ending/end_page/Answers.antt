@@ -1,10 +1,9 @@
 use Rattle.std.proofs.Common.{◌≡◌, ◌&&◌, ◌∙◌, sym, ap}
 use Rattle.up_model.specs.Looks.{PageLook, is_present, is_unclean, ended_look}
 use Rattle.up_model.specs.States.{closing}
-use Rattle.up_model.proofs.Touching.{end_goes, end_turns}
-use Rattle.up_object.proofs.Looking.{unclean_is}
+use Rattle.up_model.proofs.PagesTouched.{end_goes, end_turns}
+use Rattle.up_object.proofs.PageLooks.{unclean_is}
 use Rattle.up_object.specs.Parts.{shown}
-use Rattle.up_clean.specs.Ends.{goes_at_end}
 use Rattle.up_clean.proofs.Pages.{turned_is_set, ended_same, goes_away, stays_present}
 use Rattle.up_clean.proofs.ending.end_page.Goals as goal
 

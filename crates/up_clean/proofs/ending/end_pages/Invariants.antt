@@ -1,5 +1,5 @@
 use Rattle.std.proofs.Common.{◌≡◌}
-use Rattle.up_object.specs.Steps.{further}
+use Rattle.up_object.specs.OneCall.{further}
 use Rattle.up_clean.proofs.ending.end_pages.Given as goal
 
 abbrev pub invariant-loop-place : goal.invariant-loop-place

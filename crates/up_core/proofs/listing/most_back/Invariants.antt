@@ -1,5 +1,5 @@
 use Rattle.std.proofs.Common.{◌≡◌, ◌+◌, length, take, sum_by}
-use Rattle.up_object.specs.Steps.{frames_of}
+use Rattle.up_object.specs.OneCall.{frames_of}
 use Rattle.up_core.specs.declared.requests.Request.{Request}
 use Rattle.up_core.proofs.listing.most_back.Given as goal
 

@@ -1,6 +1,6 @@
 use Rattle.std.proofs.Common.{sym, ◌∙◌, rules}
 use Rattle.up_model.specs.Reply.{loaned_firm}
-use Rattle.up_reclaim.proofs.Listed.{firm_step}
+use Rattle.up_reclaim.proofs.PageLists.{firm_step}
 use Rattle.up_core.proofs.needing.needs_to_vacate.Goals as goal
 
 pub loop-page-preserved : goal.loop-page-preserved

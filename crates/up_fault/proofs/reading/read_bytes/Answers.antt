@@ -2,10 +2,10 @@ use Rattle.std.proofs.Common.{refl, []}
 use Rattle.up_model.specs.Attempts.{page_of}
 use Rattle.up_model.specs.declared.entry.Entry.{Entry}
 use Rattle.up_model.specs.declared.entry.Reply.TheVariants.{Bytes}
-use Rattle.up_model.proofs.Touching.{read_uses}
+use Rattle.up_model.proofs.PagesTouched.{read_uses}
 use Rattle.up_fault.specs.Accesses.{access_in}
 use Rattle.up_fault.specs.Calls.{read_call, read_attempt}
-use Rattle.up_fault.proofs.Endings.{reads_own}
+use Rattle.up_fault.proofs.OnePageEnds.{reads_own}
 use Rattle.up_fault.proofs.reading.read_bytes.Goals as goal
 
 pub use_page-requires-clause-uses : goal.use_page-requires-clause-uses

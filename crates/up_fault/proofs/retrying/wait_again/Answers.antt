@@ -4,7 +4,7 @@ use Rattle.up_model.specs.declared.entry.Entry.{Entry}
 use Rattle.up_model.specs.declared.entry.Reply.TheVariants.{Blocked}
 use Rattle.up_fault.specs.Calls.{retry_call}
 use Rattle.up_object.specs.Asks.{access_of}
-use Rattle.up_fault.proofs.Again.{held_spends, again_wants, again_attempts, again_reply}
+use Rattle.up_fault.proofs.Retries.{held_spends, again_wants, again_attempts, again_reply}
 use Rattle.up_fault.proofs.retrying.wait_again.Goals as goal
 
 pub want-requires-clause-asks : goal.want-requires-clause-asks
@@ -39,7 +39,7 @@ park-object-requires-clause-due c = rw (c.spend-piece.ensures.new, c.in-Ok-open_
 
 pub spend-piece-requires-clause-spends : goal.spend-piece-requires-clause-spends
 spend-piece-requires-clause-spends c = rw (c.in-Ok-open_asking.ensures.ok, c.entry-entry.ensures)
-    (held_spends c.args.object.birth _ c.args.object.journal c.args.retrying.by.who c.args.retrying.ticket c.args.retrying.brought c.size.ensures.legal c.requires.proper refl refl)
+    (held_spends c.args.object.birth _ c.args.object.journal c.args.retrying.by.who c.args.retrying.ticket c.args.retrying.brought c.is_legal.ensures c.requires.proper refl refl)
 
 pub park-object-requires-clause-attached : goal.park-object-requires-clause-attached
 park-object-requires-clause-attached c = rw (c.spend-piece.ensures.new, c.in-Ok-open_asking.ensures.ok) ((c.requires.waits []).attached)

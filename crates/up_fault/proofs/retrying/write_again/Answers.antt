@@ -1,18 +1,17 @@
-use Rattle.std.proofs.Common.{◌≡◌, ◌+◌, ◌∷◌, ◌%◌, ◌∙◌, List, refl, [], ap, sym, subst, arith}
+use Rattle.std.proofs.Common.{◌≡◌, ◌+◌, ◌∷◌, ◌%◌, ◌∙◌, refl, [], ap, sym, subst, arith}
 use Rattle.up_model.specs.Attempts.{page_of}
 use Rattle.up_model.specs.declared.entry.Reply.TheVariants.{Done}
-use Rattle.up_model.specs.declared.entry.Birth.{Birth}
 use Rattle.up_model.specs.declared.entry.Entry.{Entry}
 use Rattle.up_fault.specs.Calls.{retry_call}
-use Rattle.up_model.proofs.Touching.{write_writes}
+use Rattle.up_model.proofs.PagesTouched.{write_writes}
 use Rattle.up_model.proofs.Resolved.{write_modifies}
 use Rattle.up_object.specs.Asks.{access_of}
 use Rattle.up_object.specs.Parts.{BankPair}
 use Rattle.up_object.specs.Change.{Change, of_kind, AllOwn}
 use Rattle.up_object.specs.Whole.{held}
 use Rattle.up_pages.specs.Frames.{count_kind}
-use Rattle.up_fault.proofs.Again.{held_spends, again_attempts, again_page, again_reply, again_framed, write_answers, waiter_brings, brings_within, brings_place}
-use Rattle.up_fault.proofs.Endings.{touched_pages, place_small, closed_steps}
+use Rattle.up_fault.proofs.Retries.{held_spends, again_attempts, again_page, again_reply, again_framed, write_answers, waiter_brings, brings_within, brings_place}
+use Rattle.up_fault.proofs.OnePageEnds.{touched_pages, place_small, closed_steps}
 use Rattle.up_fault.proofs.retrying.write_again.Goals as goal
 
 pub page_in-page-requires : goal.page_in-page-requires
@@ -23,7 +22,7 @@ open-requires-clause-fits c = let value = c.page_in-page.ensures.value in let lo
 
 pub spend-piece-requires-clause-spends : goal.spend-piece-requires-clause-spends
 spend-piece-requires-clause-spends c = rw (c.in-Ok.ensures.ok, c.entry-entry.ensures)
-    (held_spends c.args.object.birth _ c.args.object.journal c.args.retrying.by.who c.args.retrying.ticket c.args.retrying.brought c.size.ensures.legal c.requires.proper refl refl)
+    (held_spends c.args.object.birth _ c.args.object.journal c.args.retrying.by.who c.args.retrying.ticket c.args.retrying.brought c.is_legal.ensures c.requires.proper refl refl)
 
 pub write-requires-clause-frame : goal.write-requires-clause-frame
 write-requires-clause-frame c = rw (c.spend-piece.ensures.new, c.in-Ok.ensures.ok, c.page_in-page.ensures.value)

@@ -1,6 +1,6 @@
 use Rattle.std.proofs.Common.{◌∙◌, sym}
 use Rattle.up_model.specs.Asks.{lacks}
-use Rattle.up_fault.proofs.Counting.{run_step}
+use Rattle.up_fault.proofs.RangeLoops.{run_step}
 use Rattle.up_fault.proofs.wanting.lacking.Goals as goal
 
 pub loop-place-preserved : goal.loop-place-preserved

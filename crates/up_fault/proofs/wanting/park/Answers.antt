@@ -1,6 +1,6 @@
 use Rattle.up_model.specs.Changes.{Parks}
 use Rattle.up_object.specs.Asks.{access_of}
-use Rattle.up_fault.proofs.Endings.{parked_places}
+use Rattle.up_fault.proofs.OnePageEnds.{parked_places}
 use Rattle.up_fault.proofs.wanting.park.Goals as goal
 
 pub close-requires-clause-places : goal.close-requires-clause-places

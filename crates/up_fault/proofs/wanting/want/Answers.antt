@@ -4,7 +4,7 @@ use Rattle.up_model.specs.Attempts.{page_of}
 use Rattle.up_model.specs.Size.{size}
 use Rattle.up_model.specs.Asks.{lacks}
 use Rattle.up_fault.specs.Accesses.{access_in}
-use Rattle.up_fault.proofs.Lacking.{want_is, run_some, run_fits}
+use Rattle.up_fault.proofs.LackingRuns.{want_is, run_some, run_fits}
 use Rattle.up_fault.proofs.wanting.want.Goals as goal
 
 pub invariant_of-range : goal.invariant_of-range

@@ -1,7 +1,7 @@
 use Rattle.std.proofs.Common.{ℕ, ◌≤◌, List, length, subst, sym}
 use Rattle.up_fault.specs.declared.access.Attempt.{Attempt}
 use Rattle.up_fault.specs.Accesses.{access_in, Wants}
-use Rattle.up_fault.proofs.Again.{short_write}
+use Rattle.up_fault.proofs.Retries.{short_write}
 use Rattle.up_fault.proofs.writing.park_write.Goals as goal
 
 pub waiter-requires : goal.waiter-requires

@@ -1,16 +1,14 @@
-use Rattle.std.proofs.Common.{◌≡◌, ℕ, ◌+◌, ◌∷◌, List, refl, ap, sym, subst, ◌∙◌, ◌%◌}
-use Rattle.up_bank.specs.declared.kind.FrameKind.{FrameKind}
+use Rattle.std.proofs.Common.{◌≡◌, ◌+◌, ◌∷◌, refl, ap, sym, subst, ◌∙◌, ◌%◌}
 use Rattle.up_pages.specs.Frames.{count_kind}
 use Rattle.up_model.specs.Attempts.{page_of}
-use Rattle.up_model.specs.declared.entry.Birth.{Birth}
 use Rattle.up_model.specs.declared.entry.Entry.{Entry}
 use Rattle.up_model.specs.declared.entry.Reply.TheVariants.{Done}
-use Rattle.up_model.proofs.Touching.{write_writes}
+use Rattle.up_model.proofs.PagesTouched.{write_writes}
 use Rattle.up_object.specs.Parts.{BankPair}
 use Rattle.up_object.specs.Change.{Change, of_kind, AllOwn}
 use Rattle.up_object.specs.Whole.{held}
 use Rattle.up_fault.specs.Calls.{write_access, write_call}
-use Rattle.up_fault.proofs.Endings.{parts_of, place_small, closed_steps}
+use Rattle.up_fault.proofs.OnePageEnds.{parts_of, place_small, closed_steps}
 use Rattle.up_fault.proofs.writing.write_bytes.Goals as goal
 
 pub write-requires-clause-writes : goal.write-requires-clause-writes

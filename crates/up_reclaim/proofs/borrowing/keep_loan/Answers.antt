@@ -1,5 +1,5 @@
 use Rattle.std.proofs.Common.{refl}
-use Rattle.up_reclaim.proofs.Lending.{borrow_keeps}
+use Rattle.up_reclaim.proofs.Borrows.{borrow_keeps}
 use Rattle.up_reclaim.proofs.borrowing.keep_loan.Goals as goal
 
 pub keep-requires-clause-same : goal.keep-requires-clause-same

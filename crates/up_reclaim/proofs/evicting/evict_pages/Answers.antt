@@ -12,4 +12,4 @@ evict-requires-clause-goes c = λ p listed. evict_listed c.args.object.birth c.e
 
 pub evict-requires-clause-bare : goal.evict-requires-clause-bare
 evict-requires-clause-bare c = λ p listed. evict_bare c.args.object.birth c.args.object.journal c.args.evicting.by.who c.args.evicting.by.epoch c.args.evicting.limit c.args.evicting.max c.args.pages p
-    c.size.ensures.legal c.requires listed
+    c.is_legal.ensures c.requires listed

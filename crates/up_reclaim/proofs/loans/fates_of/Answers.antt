@@ -1,5 +1,5 @@
 use Rattle.std.proofs.Common.{rules}
-use Rattle.up_reclaim.proofs.Vacated.{fate_put}
+use Rattle.up_reclaim.proofs.Vacates.{fate_put}
 use Rattle.up_reclaim.proofs.loans.fates_of.Goals as goal
 
 pub loop-page-preserved : goal.loop-page-preserved

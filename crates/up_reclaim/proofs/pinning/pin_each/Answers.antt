@@ -2,8 +2,8 @@ use Rattle.std.proofs.Common.{◌≡◌, ℕ, ◌+◌, ◌-◌, ◌<◌, cond, a
 use Rattle.up_model.specs.Looks.{lacks_own_frame, look_of}
 use Rattle.up_model.specs.Reply.{needs_own_frame}
 use Rattle.up_object.specs.Change.{Change}
-use Rattle.up_object.proofs.Looking.{own_is}
-use Rattle.up_object.proofs.Ranged.{used_further, one_left, rest_left}
+use Rattle.up_object.proofs.PageLooks.{own_is}
+use Rattle.up_object.proofs.RangeCalls.{used_further, one_left, rest_left}
 use Rattle.up_reclaim.proofs.EachPage.{pin_at}
 use Rattle.up_reclaim.proofs.pinning.pin_each.Goals as goal
 

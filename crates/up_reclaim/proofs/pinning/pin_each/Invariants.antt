@@ -1,7 +1,7 @@
 use Rattle.std.proofs.Common.{◌≡◌, ◌+◌, ◌-◌, ◌≤◌}
 use Rattle.up_model.specs.Pages.{count_pages}
 use Rattle.up_model.specs.Reply.{needs_own_frame}
-use Rattle.up_object.specs.Steps.{further}
+use Rattle.up_object.specs.OneCall.{further}
 use Rattle.up_reclaim.proofs.pinning.pin_each.Given as goal
 
 abbrev pub invariant-loop-place : goal.invariant-loop-place

@@ -1,5 +1,5 @@
 use Rattle.std.proofs.Common.{◌≡◌}
-use Rattle.up_object.specs.Steps.{further}
+use Rattle.up_object.specs.OneCall.{further}
 use Rattle.up_reclaim.proofs.unpinning.unpin_each.Given as goal
 
 abbrev pub invariant-loop-place : goal.invariant-loop-place

@@ -2,10 +2,10 @@ use Rattle.std.proofs.Common.{◌≡◌, ◌-◌, cond, length, ap, sym, ◌∙�
 use Rattle.std.specs.Prelude.{slice_index_or}
 use Rattle.up_model.specs.Reply.{loaned_firm}
 use Rattle.up_object.specs.Change.{Change}
-use Rattle.up_object.proofs.Ranged.{further_none, used_further, one_left, rest_left}
+use Rattle.up_object.proofs.RangeCalls.{further_none, used_further, one_left, rest_left}
 use Rattle.up_reclaim.specs.Loans.{is_moved}
 use Rattle.up_reclaim.specs.declared.loans.Fate.TheVariants.{Stays}
-use Rattle.up_reclaim.proofs.Vacated.{meets_at, firm_at, enough_given}
+use Rattle.up_reclaim.proofs.Vacates.{meets_at, firm_at, enough_given}
 use Rattle.up_reclaim.proofs.vacating.vacate_each.Goals as goal
 
 pub loop-place-init : goal.loop-place-init

@@ -1,7 +1,7 @@
 use Rattle.std.proofs.Common.{◌≡◌, ◌+◌, ◌-◌, ◌≤◌, length}
 use Rattle.up_model.specs.Pages.{count_pages}
 use Rattle.up_model.specs.Reply.{loaned_firm}
-use Rattle.up_object.specs.Steps.{further}
+use Rattle.up_object.specs.OneCall.{further}
 use Rattle.up_reclaim.proofs.vacating.vacate_each.Given as goal
 
 abbrev pub invariant-loop-place : goal.invariant-loop-place

@@ -1,6 +1,6 @@
 use Rattle.std.proofs.Common.{refl}
-use Rattle.up_supply.proofs.Cut.{detached_places}
-use Rattle.up_supply.proofs.Left.{leave_detaches}
+use Rattle.up_supply.proofs.Detaches.{detached_places}
+use Rattle.up_supply.proofs.Leaves.{leave_detaches}
 use Rattle.up_supply.proofs.leaving.leave_last.Goals as goal
 
 pub close-object-requires-clause-places : goal.close-object-requires-clause-places

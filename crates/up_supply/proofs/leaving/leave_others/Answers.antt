@@ -1,5 +1,5 @@
 use Rattle.std.proofs.Common.{refl, sym}
-use Rattle.up_supply.proofs.Left.{leave_happens, others_left}
+use Rattle.up_supply.proofs.Leaves.{leave_happens, others_left}
 use Rattle.up_supply.proofs.leaving.leave_others.Goals as goal
 
 pub resolve-requires-clause-happens : goal.resolve-requires-clause-happens

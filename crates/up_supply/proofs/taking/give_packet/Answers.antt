@@ -1,5 +1,5 @@
 use Rattle.std.proofs.Common.{refl}
-use Rattle.up_supply.proofs.Handed.{takes_packet}
+use Rattle.up_supply.proofs.PacketsTaken.{takes_packet}
 use Rattle.up_supply.proofs.taking.give_packet.Goals as goal
 
 pub take_packet-requires-clause-takes : goal.take_packet-requires-clause-takes

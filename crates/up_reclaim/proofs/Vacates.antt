@@ -17,15 +17,15 @@ use Rattle.up_model.specs.declared.entry.Birth.{Birth}
 use Rattle.up_model.specs.declared.entry.Brought.{Brought}
 use Rattle.up_model.specs.declared.entry.Call.TheVariants.{Vacate}
 use Rattle.up_model.specs.declared.entry.Entry.{Entry}
-use Rattle.up_model.proofs.Quiet.{untouched}
-use Rattle.up_model.proofs.Resting.{loaned_page}
-use Rattle.up_model.proofs.Touching.{vacate_goes, vacate_reframes}
+use Rattle.up_model.proofs.UnconcernedPages.{untouched}
+use Rattle.up_model.proofs.StateParts.{loaned_page}
+use Rattle.up_model.proofs.PagesTouched.{vacate_goes, vacate_reframes}
 use Rattle.up_span.proofs.Ranges.{counts_listed}
 use Rattle.up_reclaim.specs.Loans.{fate_by, fate_at, is_moved, Meets, vacated}
 use Rattle.up_reclaim.specs.declared.loans.Fate.{Fate}
 use Rattle.up_reclaim.specs.declared.loans.Fate.TheVariants.{Stays}
-use Rattle.up_reclaim.proofs.Lending.{clean_look}
-use Rattle.up_reclaim.proofs.Listed.{listed_inside, listed_outside}
+use Rattle.up_reclaim.proofs.Borrows.{clean_look}
+use Rattle.up_reclaim.proofs.PageLists.{listed_inside, listed_outside}
 
 moved_by : (birth : Birth) (e : Entry) (h : List Entry) (brought : Brought) (p : ℕ) → e.call ≡ Vacate brought → e.reply ≡ vacated birth h → p < size birth h → moves e p ≡ loaned_firm birth h p
 moved_by birth e h brought p c r lt = rw (c, r) (listed_inside (loaned_firm birth h) (size birth h) p lt)

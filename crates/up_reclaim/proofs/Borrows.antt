@@ -16,10 +16,10 @@ use Rattle.up_model.specs.declared.entry.Brought.{Brought}
 use Rattle.up_model.specs.declared.entry.Call.TheVariants.{Borrow}
 use Rattle.up_model.specs.declared.entry.Entry.{Entry}
 use Rattle.up_model.proofs.Bools.{and_false}
-use Rattle.up_model.proofs.Steps.{idle_kept}
-use Rattle.up_model.proofs.Quiet.{quiet_page}
-use Rattle.up_model.proofs.Resting.{plain_unsettled}
-use Rattle.up_model.proofs.Touching.{borrow_reframes}
+use Rattle.up_model.proofs.OneEntryMore.{idle_kept}
+use Rattle.up_model.proofs.UnconcernedPages.{quiet_page}
+use Rattle.up_model.proofs.StateParts.{plain_unsettled}
+use Rattle.up_model.proofs.PagesTouched.{borrow_reframes}
 
 -- where the page has a loaned frame already
 pub borrow_keeps : (birth : Birth) (e : Entry) (h : List Entry) (page : PageNo) (brought : Brought) (p : ℕ) → e.call ≡ Borrow page brought → is_done e.reply ≡ false → says_borrowed e.reply ≡ false →

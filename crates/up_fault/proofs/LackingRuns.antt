@@ -8,7 +8,7 @@ use Rattle.up_model.specs.Asks.{lacks, kind_of, want}
 use Rattle.up_model.specs.declared.entry.Birth.{Birth}
 use Rattle.up_model.specs.declared.entry.Entry.{Entry}
 use Rattle.up_model.proofs.Blocked.{run_within}
-use Rattle.up_fault.proofs.Counting.{run_goes_on}
+use Rattle.up_fault.proofs.RangeLoops.{run_goes_on}
 
 pub want_is : (birth : Birth) (h : List Entry) (a : Access) (kind : AskKind) (room count : ℕ) → kind_of birth h a ≡ kind → room ≡ min (a.last + 1) (size birth h) - page_of a.off →
     count ≡ run_of (lacks birth h kind) (page_of a.off) room → want birth h a ≡ record { kind = kind; first = page_of a.off; count = count }

@@ -7,7 +7,7 @@ use Rattle.up_model.specs.Looks.{look_by, look_of, is_present, lacks_own_frame}
 use Rattle.up_model.specs.Legal.{Legal}
 use Rattle.up_model.specs.declared.entry.Birth.{Birth}
 use Rattle.up_model.specs.declared.entry.Entry.{Entry}
-use Rattle.up_model.proofs.Resting.{loaned_page}
+use Rattle.up_model.proofs.StateParts.{loaned_page}
 use Rattle.up_fault.specs.Accesses.{dirty_look}
 
 present_by : (here mark rest run loan : Bool) → is_present (look_by here mark rest run loan) ≡ here

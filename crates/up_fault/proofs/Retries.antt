@@ -20,14 +20,14 @@ use Rattle.up_model.specs.declared.entry.Entry.{Entry}
 use Rattle.up_model.specs.declared.entry.Reply.{Reply}
 use Rattle.up_model.specs.declared.entry.Reply.TheVariants as answer
 use Rattle.up_model.proofs.Bools.{and_left, and_right, nat_eq_true}
-use Rattle.up_model.proofs.Holding.{owner_below}
+use Rattle.up_model.proofs.HeldTickets.{owner_below}
 use Rattle.up_model.proofs.Resolved.{retry_spends}
 use Rattle.up_object.specs.Asks.{access_of}
 use Rattle.up_fault.specs.declared.access.Attempt.{Attempt}
 use Rattle.up_fault.specs.Accesses.{access_in, done_reply, Doing, Wants}
 use Rattle.up_fault.specs.Calls.{bytes_of, counts_bytes, IsAttempt, OfParked}
-use Rattle.up_fault.specs.declared.wanting.Wanted.{Wanted}
-use Rattle.up_fault.proofs.Endings.{reads_own, parts_of}
+use Rattle.up_fault.specs.declared.wanting.Shortfall.{Shortfall}
+use Rattle.up_fault.proofs.OnePageEnds.{reads_own, parts_of}
 
 -- The ticket.
 
@@ -112,7 +112,7 @@ pub again_framed : (birth : Birth) (h : List Entry) (attempt : Attempt) (brought
 again_framed birth h attempt brought given writes each enough lacks =
     let some : 0 < frames_in brought = (each []).framed (has_bytes attempt.write [] writes) lacks in omega arith
 
-pub again_wants : (birth : Birth) (h : List Entry) (attempt : Attempt) (w : Waiter) (wanted : Wanted) → IsAttempt attempt (access_of w) → ((bytes : List ℕ) → Wants birth h (access_in attempt bytes) wanted) → Wants birth h (access_of w) wanted
+pub again_wants : (birth : Birth) (h : List Entry) (attempt : Attempt) (w : Waiter) (wanted : Shortfall) → IsAttempt attempt (access_of w) → ((bytes : List ℕ) → Wants birth h (access_in attempt bytes) wanted) → Wants birth h (access_of w) wanted
 again_wants birth h attempt w wanted is each = subst (λ (a : Access). Wants birth h a wanted) is.same (each (bytes_of (access_of w).bytes))
 
 not_write : (w : Bool) (bytes : List ℕ) → w ≡ false → cond w (Some bytes) None ≡ None

@@ -15,7 +15,7 @@ use Rattle.up_model.specs.declared.entry.Entry.{Entry}
 use Rattle.up_model.proofs.Asked.{dirty_asked}
 use Rattle.up_model.proofs.Presence.{pages_within}
 use Rattle.up_model.proofs.Resolved.{accepted_asked, detaches_accepted}
-use Rattle.up_object.specs.Change.{Done, Rests}
+use Rattle.up_object.specs.Change.{CallProgress, Rests}
 
 pub detach_detaches : (birth : Birth) (e : Entry) (h : List Entry) → e.call ≡ Detach → accepts e.reply ≡ true → is_packet e.reply ≡ false → detached birth h ≡ false → Detaches birth e h
 detach_detaches birth e h c a n attached = record {
@@ -40,7 +40,7 @@ none_done : (p : ℕ) → (nat_le 0 p && nat_lt p 0) ≡ false
 none_done p = grind (arith, nat_tests)
 
 -- pages past the end keep their places
-pub detached_places : (birth : Birth) (e : Entry) (h : List Entry) (done : Done) → Legal birth h → Detaches birth e h → done.first ≡ 0 → done.mark ≡ 0 →
+pub detached_places : (birth : Birth) (e : Entry) (h : List Entry) (done : CallProgress) → Legal birth h → Detaches birth e h → done.first ≡ 0 → done.mark ≡ 0 →
     (p : ℕ) → (nat_le 0 p && nat_lt p (size birth h)) ≡ false → Rests birth e h done p
 detached_places birth e h done legal d from to p out = record {
   undone = rw (from, to) (none_done p);

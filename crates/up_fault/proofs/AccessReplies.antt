@@ -15,11 +15,11 @@ use Rattle.up_model.specs.declared.entry.Brought.TheVariants.{Nothing, Frames, S
 use Rattle.up_model.specs.declared.entry.Entry.{Entry}
 use Rattle.up_model.proofs.Bools.{and_right}
 use Rattle.up_fault.specs.declared.access.Attempt.{Attempt}
-use Rattle.up_fault.specs.declared.access.Verdict.{Verdict}
-use Rattle.up_fault.specs.declared.access.Verdict.TheVariants.{Decline, Done}
+use Rattle.up_fault.specs.declared.access.Decision.{Decision}
+use Rattle.up_fault.specs.declared.access.Decision.TheVariants.{Decline, Done}
 use Rattle.up_object.specs.declared.step.Declined.TheVariants.{Needs}
-use Rattle.up_fault.specs.Accesses.{access_in, verdict, frame_verdict, Decided}
-use Rattle.up_fault.proofs.Seen.{present_is, lacking_is}
+use Rattle.up_fault.specs.Accesses.{access_in, decision, frame_verdict, Decided}
+use Rattle.up_fault.proofs.PageLooks.{present_is, lacking_is}
 
 abbrev at : ℕ → ℕ → ℕ → Option (List ℕ) → Access
 at off len last bytes = record { off = off; len = len; last = last; bytes = bytes }
@@ -67,7 +67,7 @@ framed_decided birth h off len last bytes gone (Frames n) f = elim (nat_lt n 1) 
 ] refl
 
 found_decided : (birth : Birth) (h : List Entry) (off len last : ℕ) (bytes : Option (List ℕ)) (here leave lacking gone : Bool) (brought : Brought) → Found birth h off len last bytes here leave lacking gone →
-    Decided birth h (at off len last bytes) brought (verdict true here (is_some bytes) leave lacking gone brought)
+    Decided birth h (at off len last bytes) brought (decision true here (is_some bytes) leave lacking gone brought)
 found_decided birth h off len last bytes false leave lacking true brought f = rw (f.fits, f.is_here, f.is_gone) refl
 found_decided birth h off len last bytes false leave lacking false brought f = record {
   answers = rw (f.fits, f.is_here, f.is_gone) refl;
@@ -102,12 +102,12 @@ found_decided birth h off len last (Some bytes) true false false gone brought f 
 
 -- by all tests
 pub decided : (birth : Birth) (h : List Entry) → Legal birth h → (off len last : ℕ) (bytes : Option (List ℕ)) (brought : Brought) → 0 < len →
-    Decided birth h (at off len last bytes) brought (verdict (nat_le (off + len) (4096 * size birth h)) (there birth h (page_of off)) (is_some bytes)
+    Decided birth h (at off len last bytes) brought (decision (nat_le (off + len) (4096 * size birth h)) (there birth h (page_of off)) (is_some bytes)
     (birth.trap && not (dirty birth h (page_of off))) (plain birth h (page_of off) || loaned birth h (page_of off)) (detached birth h) brought)
 decided birth h legal off len last bytes brought some =
     let p = page_of off in
     elim (nat_le (off + len) (4096 * size birth h)) as (λ b. nat_le (off + len) (4096 * size birth h) ≡ b →
-    Decided birth h (at off len last bytes) brought (verdict b (there birth h p) (is_some bytes)
+    Decided birth h (at off len last bytes) brought (decision b (there birth h p) (is_some bytes)
     (birth.trap && not (dirty birth h p)) (plain birth h p || loaned birth h p) (detached birth h) brought)) [
       | false ↦ λ q. rw q refl
       | true ↦ λ q. found_decided birth h off len last bytes _ _ _ _ brought (record {
@@ -123,17 +123,17 @@ decided birth h legal off len last bytes brought some =
 
 -- whatever bytes a write brings
 pub attempt_decided : (birth : Birth) (h : List Entry) → Legal birth h → (attempt : Attempt) (bytes : List ℕ) (brought : Brought) → 0 < attempt.len →
-    Decided birth h (access_in attempt bytes) brought (verdict (nat_le (attempt.off + attempt.len) (4096 * size birth h)) (there birth h (page_of attempt.off)) attempt.write
+    Decided birth h (access_in attempt bytes) brought (decision (nat_le (attempt.off + attempt.len) (4096 * size birth h)) (there birth h (page_of attempt.off)) attempt.write
     (birth.trap && not (dirty birth h (page_of attempt.off))) (plain birth h (page_of attempt.off) || loaned birth h (page_of attempt.off)) (detached birth h) brought)
 attempt_decided birth h legal attempt bytes brought some =
-    elim (attempt.write) as (λ w. Decided birth h (at attempt.off attempt.len attempt.last.0 (cond w (Some bytes) None)) brought (verdict (nat_le (attempt.off + attempt.len) (4096 * size birth h)) (there birth h (page_of attempt.off)) w
+    elim (attempt.write) as (λ w. Decided birth h (at attempt.off attempt.len attempt.last.0 (cond w (Some bytes) None)) brought (decision (nat_le (attempt.off + attempt.len) (4096 * size birth h)) (there birth h (page_of attempt.off)) w
     (birth.trap && not (dirty birth h (page_of attempt.off))) (plain birth h (page_of attempt.off) || loaned birth h (page_of attempt.off)) (detached birth h) brought)) [
       | true ↦ decided birth h legal attempt.off attempt.len attempt.last.0 (Some bytes) brought some
       | false ↦ decided birth h legal attempt.off attempt.len attempt.last.0 None brought some
     ]
 
--- of an attempt and a verdict that are known
-pub decided_as : (birth : Birth) (h : List Entry) (brought : Brought) (bytes : List ℕ) (some known : Attempt) (found verdict : Verdict) →
-    ((bytes : List ℕ) → Decided birth h (access_in some bytes) brought found) → some ≡ known → found ≡ verdict → Decided birth h (access_in known bytes) brought verdict
-decided_as birth h brought bytes some known found verdict each same is =
-    subst (λ (t : Attempt). Decided birth h (access_in t bytes) brought verdict) same (subst (λ v. Decided birth h (access_in some bytes) brought v) is (each bytes))
+-- of an attempt and a decision that are known
+pub decided_as : (birth : Birth) (h : List Entry) (brought : Brought) (bytes : List ℕ) (some known : Attempt) (found decision : Decision) →
+    ((bytes : List ℕ) → Decided birth h (access_in some bytes) brought found) → some ≡ known → found ≡ decision → Decided birth h (access_in known bytes) brought decision
+decided_as birth h brought bytes some known found decision each same is =
+    subst (λ (t : Attempt). Decided birth h (access_in t bytes) brought decision) same (subst (λ v. Decided birth h (access_in some bytes) brought v) is (each bytes))

@@ -19,8 +19,8 @@ use Rattle.up_model.specs.Reply.{reply}
 use Rattle.up_bank.specs.Standing.{Held as Frame}
 use Rattle.up_bank.specs.declared.kind.FrameKind.{FrameKind}
 use Rattle.up_pages.specs.Frames.{Stock, count_kind}
-use Rattle.up_object.specs.Change.{Done, Rests, Counts, of_kind, AllOwn}
-use Rattle.up_object.specs.Steps.{Steps}
+use Rattle.up_object.specs.Change.{CallProgress, Rests, Counts, of_kind, AllOwn}
+use Rattle.up_object.specs.OneCall.{DoesCall}
 use Rattle.up_object.specs.Whole.{Whole, with_entry, held}
 
 off_page : (page p : ℕ) → (nat_le page p && nat_lt p (page + 1)) ≡ false → (page == p) ≡ false
@@ -49,7 +49,7 @@ no_page m p = grind (arith, nat_tests)
 asked_outside : (same within was : Bool) → within ≡ false → ((same && within) || was) ≡ was
 asked_outside same within was out = rw (out, and_false same) refl
 
-pub parked_places : (birth : Birth) (h : List Entry) (e : Entry) (a : Access) (ask : Ask) (done : Done) → Parks birth e h a ask → done.mark ≡ done.first →
+pub parked_places : (birth : Birth) (h : List Entry) (e : Entry) (a : Access) (ask : Ask) (done : CallProgress) → Parks birth e h a ask → done.mark ≡ done.first →
     (p : ℕ) → (nat_le ask.first p && nat_lt p (ask.first + ask.count)) ≡ false → Rests birth e h done p
 parked_places birth h e a ask done parks none p out = record {
   undone = rw none (no_page done.first p);
@@ -75,7 +75,7 @@ pub closed_steps : {E : Type 0} (old new : Whole) (back : Stock) (given : List F
     new ≡ with_entry old (record { who = who; epoch = epoch; call = call; reply = r }) → reply old.birth old.journal who epoch call ≡ r →
     ((kind : FrameKind) → count_kind kind back.items + held old.birth (record { who = who; epoch = epoch; call = call; reply = r } ∷ old.journal) kind ≡ of_kind kind all) →
     ((kind : FrameKind) → of_kind kind all ≡ count_kind kind given + held old.birth old.journal kind) → AllOwn old.banks back.items →
-    Steps {E = E} old new (Ok (record { reply = r; back = back })) who epoch call given
+    DoesCall {E = E} old new (Ok (record { reply = r; back = back })) who epoch call given
 closed_steps old new back given all who epoch call r is due counts had own = record {
   ok = is ∙ (λ i. with_entry old (record { who = who; epoch = epoch; call = call; reply = sym due i }));
   due = sym due;
