@@ -1,7 +1,7 @@
-pub mod Fewer
-pub mod Listing
+pub mod SetsLess
+pub mod ClaimLists
 pub mod SiteWords
 pub mod RowTwoWriters
 pub mod RowsOfFaults
 pub mod RowsOfChoices
-pub mod Ways
+pub mod ClaimsInTheWay

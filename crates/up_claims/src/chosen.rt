@@ -1,5 +1,5 @@
 ghost use Rattle.std.specs.Prelude.{◌≡◌, [], IfOk, OnOk, OnErr};
-ghost use Rattle.up_span.specs.Sets.{holds};
+ghost use Rattle.up_span.specs.Sets.{holds, Apart};
 ghost use Rattle.up_claims.specs.Sets.{without};
 
 use std::alloc::Global;
@@ -25,6 +25,13 @@ impl Model for Chosen {
     ghost invariant = { λ seen. Apart 0 seen.pages.runs };
 }
 
+/// Tells the prover that the runs of a set lie apart.
+fn lie_apart(pages: &Spans)
+    ensures { Apart 0 pages.now.runs }
+{
+    pages.first_run();
+}
+
 impl Chosen {
     /// No page. It takes no memory.
     pub fn none(alloc: Global) -> Self
@@ -39,8 +46,7 @@ impl Chosen {
     pub fn new(pages: Spans) -> Self
         ensures { result ≡ pages.runs }
     {
-        // Only the fact that runs lie apart is wanted.
-        let _ = pages.first_run();
+        lie_apart(&pages);
         Chosen { pages }
     }
 
@@ -63,7 +69,7 @@ impl Chosen {
         ensures err { OnErr result (self.new ≡ self.old) }
     {
         self.pages.remove(range.first, range.count)?;
-        let _ = self.pages.first_run();
+        lie_apart(&self.pages);
         Ok(())
     }
 }

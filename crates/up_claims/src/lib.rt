@@ -1,4 +1,5 @@
 //! The steps of the sample pager, and what they answer.
+//! Used through `up_worker` and `up_site`; its steps are computed on worked journals in `proofs/Rows*`.
 #![tactic(auto)]
 
 mod chosen;

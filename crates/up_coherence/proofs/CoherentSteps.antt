@@ -19,12 +19,12 @@ use Rattle.up_model.specs.declared.entry.Told.TheVariants as told
 use Rattle.up_model.specs.declared.entry.Call.TheVariants.{Supply, Fail, Begin, End, Resize, Tell}
 use Rattle.up_model.specs.declared.entry.Reply.{Reply}
 use Rattle.up_model.proofs.Bools.{and_left, and_right, nat_eq_true, nat_eq-same}
-use Rattle.up_model.proofs.Resting.{absent_settled}
+use Rattle.up_model.proofs.StateParts.{absent_settled}
 use Rattle.up_claims.specs.Claimed.{next_claim, with_copy, with_store, without_fetch, given_number, claim_of, holds, fetched, in_back, has_copied, has_stored, one_page}
 use Rattle.up_claims.specs.declared.claim.Claim.{Claim}
 use Rattle.up_claims.specs.declared.claim.Claim.TheVariants.{Fetch, Back}
 use Rattle.up_coherence.specs.Coherent.{Firm, FetchStands, Coherent}
-use Rattle.up_coherence.specs.Steps.{is_quiet, made, Unheld, BelowAll, SameHands, BringsHand, ReadsDisk, CopiesBytes, StoresHand, StoresElsewhere}
+use Rattle.up_coherence.specs.StepPremises.{is_quiet, made, Unheld, BelowAll, SameHands, BringsHand, ReadsDisk, CopiesBytes, StoresHand, StoresElsewhere}
 use Rattle.up_coherence.proofs.Pages.{fetch_stays, newest_stays, newest_kept, unclean_parts}
 use Rattle.up_coherence.proofs.Firmness.{false_by, apart_true, fetched_holds, back_holds, copied_back, by_who, quiet_supply, quiet_begin, quiet_end, quiet_cut, quiet_claim, below_uncut, firm_quiet, firm_supply, firm_fail, firm_resize, firm_copied, firm_stored, firm_end, firm_fetched, firm_begin}
 use Rattle.up_coherence.proofs.Coherence.{coherent_more}

@@ -25,7 +25,7 @@ use Rattle.up_claims.specs.Claimed.{next_claim, told_claim, with_copy, with_stor
 use Rattle.up_claims.specs.declared.claim.Claim.{Claim}
 use Rattle.up_claims.specs.declared.claim.Claim.TheVariants.{Fetch, Back}
 use Rattle.up_coherence.specs.Coherent.{Firm}
-use Rattle.up_coherence.specs.Steps.{is_quiet, is_quiet_fact, made, Unheld, BelowAll}
+use Rattle.up_coherence.specs.StepPremises.{is_quiet, is_quiet_fact, made, Unheld, BelowAll}
 use Rattle.up_coherence.proofs.Pages.{unclean_stays, unclean_parts}
 
 pub false_by : (b : Bool) → (b ≡ true → ⊥) → b ≡ false

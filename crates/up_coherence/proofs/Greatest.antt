@@ -10,7 +10,7 @@ use Rattle.up_model.proofs.Placing.{first_all, first_before}
 use Rattle.up_coherence.specs.Durable.{tour_at, stores, rests_within, reached, Counts}
 use Rattle.up_coherence.proofs.Firmness.{by_who}
 use Rattle.up_coherence.proofs.Durability.{reached_grows}
-use Rattle.up_coherence.proofs.Promised.{reached_now}
+use Rattle.up_coherence.proofs.SyncPromise.{reached_now}
 use Rattle.up_coherence.proofs.LastRest.{reached_stored}
 
 entry_is : (e other : Entry) → Some e ≡ Some other → e ≡ other

@@ -24,7 +24,7 @@ use Rattle.up_coherence.specs.Durable.{tour_at, stores, rests_within, reached}
 use Rattle.up_coherence.specs.Promises.{LastRests, Calm}
 use Rattle.up_coherence.proofs.Firmness.{false_by, apart_true}
 use Rattle.up_coherence.proofs.Durability.{tour_within}
-use Rattle.up_coherence.proofs.Promised.{clean_rests}
+use Rattle.up_coherence.proofs.SyncPromise.{clean_rests}
 
 pub last_none : (birth : Birth) (h : List Entry) (worker : ℕ) → LastRests birth h worker → (p : ℕ) → unclean birth h p ≡ false
 last_none birth h worker rests p = false_by (unclean birth h p) (λ is.

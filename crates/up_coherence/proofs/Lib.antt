@@ -4,10 +4,10 @@ pub mod Coherence
 pub mod CoherentSteps
 pub mod NewestReads
 pub mod Durability
-pub mod Promised
+pub mod SyncPromise
 pub mod Runs
 pub mod LastRest
-pub mod Sounds
+pub mod SoundSites
 pub mod Greatest
 pub mod StoredPages
 pub mod WorkedRuns

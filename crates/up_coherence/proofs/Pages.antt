@@ -22,7 +22,7 @@ use Rattle.up_model.proofs.Equations.{begun_is, settled_is}
 use Rattle.up_model.proofs.Passed.{past_where, past_at, past_accepts, none_in}
 use Rattle.up_model.proofs.Presence.{value_in, there_is, bytes_stand, write_there, accepted_reply}
 use Rattle.up_model.proofs.Reclaiming.{evicted_page}
-use Rattle.up_model.proofs.Numbering.{closes_begun}
+use Rattle.up_model.proofs.NumberLaws.{closes_begun}
 use Rattle.up_coherence.specs.Coherent.{Absent, FetchStands}
 
 -- a byte has a value exactly where its page is there

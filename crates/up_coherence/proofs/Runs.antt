@@ -18,7 +18,7 @@ use Rattle.up_claims.specs.declared.claim.Claim.{Claim}
 use Rattle.up_claims.specs.declared.claim.Claim.TheVariants.{Fetch, Back}
 use Rattle.up_coherence.specs.Coherent.{Coherent, ReadsNewest}
 use Rattle.up_coherence.specs.Durable.{is_begin, tour_at, stores, flushes, rests_within, reached, durable, Dated, Lasting}
-use Rattle.up_coherence.specs.Steps.{is_quiet, made, StoresHand, StoresElsewhere}
+use Rattle.up_coherence.specs.StepPremises.{is_quiet, made, StoresHand, StoresElsewhere}
 use Rattle.up_coherence.specs.Histories.{Leaves, Left, IsBlock, Made, QuietMade, SyncMade, ResizeMade, FailMade, FetchMade, SupplyMade, BeginMade, CopyMade, StoreMade, StoreFailMade, EndMade, Ran, Starts, Goes}
 use Rattle.up_coherence.proofs.Pages.{newest_kept, unclean_parts}
 use Rattle.up_coherence.proofs.Firmness.{copied_back, own_claim, by_who, quiet_claim}
@@ -65,7 +65,7 @@ reached_low store true long tour old now unrest less = absurd (false≢true (sym
 reached_low store false long tour old now unrest less = less
 
 -- an entry whose actor's claim goes on or goes, and which is neither a begin nor a copy
-goes_on : (image : ℕ → ℕ) (birth : Birth) (e : Entry) (h : List Entry) (disk after' : ℕ → ℕ) (hands hold : ℕ → ℕ → ℕ) (leaves remain : ℕ → (ℕ → ℕ) → Type 0) (next : Option Claim) →
+pub goes_on : (image : ℕ → ℕ) (birth : Birth) (e : Entry) (h : List Entry) (disk after' : ℕ → ℕ) (hands hold : ℕ → ℕ → ℕ) (leaves remain : ℕ → (ℕ → ℕ) → Type 0) (next : Option Claim) →
     Lasting image birth h disk hands leaves → Coherent image birth (e ∷ h) after' hold → next_claim e.call e.reply (claim_of h e.who) ≡ next → is_begin e.call ≡ false →
     ((p : ℕ) → has_copied next p ≡ true → has_copied (claim_of h e.who) p ≡ true) → ((p : ℕ) → in_back next p ≡ true → in_back (claim_of h e.who) p ≡ true) →
     ((x : ℕ) → has_copied next (page_of x) ≡ true → hold e.who x ≡ hands e.who x) →
@@ -92,7 +92,7 @@ pub quiet_begins_none : (call : Call) → is_quiet call ≡ true → is_begin ca
 quiet_begins_none (Begin range zero) quiet = absurd (false≢true quiet)
 quiet_begins_none _ quiet = refl
 
-quiet_stores_none : (call : Call) (p : ℕ) → is_quiet call ≡ true → stores call p ≡ false
+pub quiet_stores_none : (call : Call) (p : ℕ) → is_quiet call ≡ true → stores call p ≡ false
 quiet_stores_none (Tell (told.Stored page ok)) p quiet = absurd (false≢true quiet)
 quiet_stores_none (Tell (told.Fetched page ok)) p quiet = refl
 quiet_stores_none (Tell (told.Copied range)) p quiet = refl
@@ -100,12 +100,12 @@ quiet_stores_none (Tell (told.Flushed ok)) p quiet = refl
 quiet_stores_none (Tell (told.Busy pages claim)) p quiet = refl
 quiet_stores_none _ p quiet = refl
 
-less_copied : (claim : Option Claim) (p : ℕ) → has_copied (without_fetch claim) p ≡ true → has_copied claim p ≡ true
+pub less_copied : (claim : Option Claim) (p : ℕ) → has_copied (without_fetch claim) p ≡ true → has_copied claim p ≡ true
 less_copied None p is = is
 less_copied (Some (Fetch page ok)) p is = absurd (false≢true is)
 less_copied (Some (Back range number copied stored)) p is = is
 
-less_back : (claim : Option Claim) (p : ℕ) → in_back (without_fetch claim) p ≡ true → in_back claim p ≡ true
+pub less_back : (claim : Option Claim) (p : ℕ) → in_back (without_fetch claim) p ≡ true → in_back claim p ≡ true
 less_back None p is = is
 less_back (Some (Fetch page ok)) p is = absurd (false≢true is)
 less_back (Some (Back range number copied stored)) p is = is
@@ -121,7 +121,7 @@ stays_by image birth e h disk after' hands hold leaves remain next was now lasts
     record { coherent = now; lasting = lasting_more image birth e h disk after' hands hold leaves remain next was.coherent.firm was.lasting now lasts }
 
 -- the block of a store: the copy in its page, as it was in others
-store_blocks : (image : ℕ → ℕ) (birth : Birth) (h : List Entry) (disk after' : ℕ → ℕ) (hand : ℕ → ℕ) (claim : Option Claim) (page p : ℕ) (ok : Bool) → StoresHand after' hand page → StoresElsewhere disk after' page →
+pub store_blocks : (image : ℕ → ℕ) (birth : Birth) (h : List Entry) (disk after' : ℕ → ℕ) (hand : ℕ → ℕ) (claim : Option Claim) (page p : ℕ) (ok : Bool) → StoresHand after' hand page → StoresElsewhere disk after' page →
     has_copied claim page ≡ true → (((x : ℕ) → page_of x ≡ p → after' x ≡ disk x) × ((ok && (page == p)) ≡ false)) ⊎ (((x : ℕ) → page_of x ≡ p → after' x ≡ hand x) × (has_copied claim p ≡ true))
 store_blocks image birth h disk after' hand claim page p ok puts elsewhere copied = by_who _ page p
     (λ here. let same : page ≡ p = nat_eq_true page p here in
@@ -132,7 +132,7 @@ store_blocks image birth h disk after' hand claim page p ok puts elsewhere copie
     none_of true = refl
     none_of false = refl
 
-store_left : (leaves remain : ℕ → (ℕ → ℕ) → Type 0) (disk : ℕ → ℕ) (hand : ℕ → ℕ) (claim : Option Claim) (page : ℕ) → has_copied claim page ≡ true →
+pub store_left : (leaves remain : ℕ → (ℕ → ℕ) → Type 0) (disk : ℕ → ℕ) (hand : ℕ → ℕ) (claim : Option Claim) (page : ℕ) → has_copied claim page ≡ true →
     ((p : ℕ) (content : ℕ → ℕ) → remain p content → leaves p content ⊎ ((p ≡ page) × IsBlock hand p content)) → (p : ℕ) (content : ℕ → ℕ) → remain p content →
     ((false ≡ false) × leaves p content) ⊎ ((((x : ℕ) → page_of x ≡ p → content x ≡ disk x)) ⊎ ((false ≡ false) × (((x : ℕ) → page_of x ≡ p → content x ≡ hand x) × (has_copied claim p ≡ true))))
 store_left leaves remain disk hand claim page copied bound p content remains = elim (bound p content remains) [

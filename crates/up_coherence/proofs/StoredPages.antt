@@ -10,12 +10,12 @@ use Rattle.up_claims.specs.Claimed.{next_claim, with_copy, with_store, without_f
 use Rattle.up_claims.specs.declared.claim.Claim.{Claim}
 use Rattle.up_claims.specs.declared.claim.Claim.TheVariants.{Fetch, Back}
 use Rattle.up_coherence.specs.Durable.{is_begin, tour_at, stores, reached, Syncing}
-use Rattle.up_coherence.specs.Steps.{made}
+use Rattle.up_coherence.specs.StepPremises.{made}
 use Rattle.up_coherence.specs.Histories.{Leaves, Made, QuietMade, SyncMade, ResizeMade, FailMade, FetchMade, SupplyMade, BeginMade, CopyMade, StoreMade, StoreFailMade, EndMade, Ran, Starts, Goes}
 use Rattle.up_coherence.proofs.Firmness.{apart_true, own_claim, other_claim, by_who, quiet_claim}
 use Rattle.up_coherence.proofs.CoherentSteps.{none_stored, stored_more, store_less}
 use Rattle.up_coherence.proofs.Durability.{reached_grows, other_tour}
-use Rattle.up_coherence.proofs.Promised.{syncing_less}
+use Rattle.up_coherence.proofs.SyncPromise.{syncing_less}
 use Rattle.up_coherence.proofs.Runs.{same_tour, quiet_begins_none}
 use Rattle.up_coherence.proofs.LastRest.{reached_stored}
 

@@ -21,7 +21,7 @@ use Rattle.up_claims.specs.Claimed.{holds}
 use Rattle.up_claims.proofs.SiteWords.{page, range, on_disk, numbered, by, tells, read_at, write_in}
 use Rattle.up_coherence.specs.Coherent.{Coherent}
 use Rattle.up_coherence.specs.Durable.{durable, reached}
-use Rattle.up_coherence.specs.Steps.{Unheld}
+use Rattle.up_coherence.specs.StepPremises.{Unheld}
 use Rattle.up_coherence.specs.Histories.{Leaves, Left, IsBlock, IsAmong, QuietMade, SyncMade, ResizeMade, FetchMade, SupplyMade, BeginMade, CopyMade, StoreMade, EndMade, Ran, Starts, Goes}
 use Rattle.up_coherence.proofs.CoherentSteps.{one_is}
 

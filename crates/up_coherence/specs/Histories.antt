@@ -18,7 +18,7 @@ use Rattle.up_claims.specs.Claimed.{claim_of, one_page, has_copied, has_stored}
 use Rattle.up_claims.specs.declared.claim.Claim.TheVariants.{Fetch, Back}
 use Rattle.up_coherence.specs.Coherent.{Coherent, ReadsNewest}
 use Rattle.up_coherence.specs.Durable.{flushes, tour_at, reached, durable, Dated, Syncing}
-use Rattle.up_coherence.specs.Steps.{is_quiet, made, Unheld, BelowAll, SameHands, BringsHand, ReadsDisk, CopiesBytes, StoresHand, StoresElsewhere}
+use Rattle.up_coherence.specs.StepPremises.{is_quiet, made, Unheld, BelowAll, SameHands, BringsHand, ReadsDisk, CopiesBytes, StoresHand, StoresElsewhere}
 
 -- what a stop may leave in each block: a list of contents
 abbrev pub Leaves : Type 0

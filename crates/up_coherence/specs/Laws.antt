@@ -17,7 +17,7 @@ use Rattle.up_model.specs.declared.entry.Reply.{Reply}
 use Rattle.up_claims.specs.Claimed.{claim_of, holds, one_page}
 use Rattle.up_claims.specs.declared.claim.Claim.TheVariants.{Fetch, Back}
 use Rattle.up_coherence.specs.Coherent.{Firm, Coherent, GivesNewest, is_bad, Sound}
-use Rattle.up_coherence.specs.Steps.{is_quiet, made, Unheld, BelowAll, SameHands, BringsHand, ReadsDisk, CopiesBytes, StoresHand, StoresElsewhere}
+use Rattle.up_coherence.specs.StepPremises.{is_quiet, made, Unheld, BelowAll, SameHands, BringsHand, ReadsDisk, CopiesBytes, StoresHand, StoresElsewhere}
 
 -- with every disk: claims stay disjoint and within the object, and what is written back stays unclean
 abbrev pub QuietStaysFirm : Type 0

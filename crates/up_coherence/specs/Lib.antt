@@ -1,5 +1,5 @@
 pub mod Coherent
-pub mod Steps
+pub mod StepPremises
 pub mod Laws
 pub mod Durable
 pub mod Histories

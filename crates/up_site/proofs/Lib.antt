@@ -3,3 +3,12 @@ pub mod Reached
 pub mod SiteSteps
 pub mod Placed
 pub mod Numbered
+pub mod Storing
+pub mod Lastings
+pub mod Leaving
+pub mod Looked
+pub mod Advanced
+pub mod Unmoved
+pub mod Replied
+pub mod Choices
+pub mod Resized

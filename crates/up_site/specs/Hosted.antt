@@ -1,7 +1,9 @@
--- What contracts see of a site: its object, and all of it over a disk where it has one; and which calls users and others may make.
+-- What contracts see of a site: its object, and all of it over a disk where it has one; and which calls
+-- users and others may make.
 use Rattle.std.specs.Prelude.{Bool, true, false, not, Option, Some, None, option_map}
 use Rattle.up_model.specs.declared.entry.Call.{Call}
-use Rattle.up_model.specs.declared.entry.Call.TheVariants.{Supply, Fail, Dirty, Begin, End, Resize, Packet, Leave, Tell}
+use Rattle.up_model.specs.declared.entry.Call.TheVariants.{Supply, Fail, Dirty, Begin, End, Resize, Packet}
+use Rattle.up_model.specs.declared.entry.Call.TheVariants.{Leave, Tell}
 use Rattle.up_object.specs.Whole.{Whole}
 use Rattle.up_site.specs.Sited.{Sited}
 use Rattle.up_site.specs.declared.hosting.Hosting.{Hosting}
@@ -30,7 +32,8 @@ image_with (Some image) whole = Some (record image { whole = whole })
 abbrev pub with_whole : {D : Type 0} → Hosted D → Whole → Hosted D
 with_whole site whole = record { whole = whole; image = image_with site.image whole }
 
--- a call but resize, leave and what is told; of an object with an image only the sample pager's steps make a pager's calls
+-- a call but resize, leave and what is told; of an object with an image only the sample pager's steps make
+-- a pager's calls
 abbrev pub may_act : Bool → Call → Bool
 may_act image (Resize pages) = false
 may_act image (Leave role) = false

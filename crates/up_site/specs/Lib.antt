@@ -4,3 +4,8 @@ pub mod Sited
 pub mod Places
 pub mod Made
 pub mod Hosted
+pub mod Sought
+pub mod Due
+pub mod Nexts
+pub mod Steps
+pub mod Reaching

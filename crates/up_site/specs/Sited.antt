@@ -1,4 +1,5 @@
--- What contracts see of an object over a disk: the object, the disk now and as it was at first, and each actor's stage.
+-- What contracts see of an object over a disk: the object, the disk now and as it was at first, and each
+-- actor's stage.
 use Rattle.std.specs.Prelude.{List}
 use Rattle.up_object.specs.Whole.{Whole}
 use Rattle.up_site.specs.declared.stage.Tour.{Tour}

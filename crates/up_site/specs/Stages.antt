@@ -1,8 +1,9 @@
 -- How far each actor has come with its claim, and which bytes it has in hand.
-use Rattle.std.specs.Prelude.{ℕ, ◌-◌, ◌*◌, ◌≤◌, ◌≡◌, ◌==◌, true, false, cond, Option, Some, None, is_some, List, [], ◌∷◌, length, get_or}
+use Rattle.std.specs.Prelude.{ℕ, ◌-◌, ◌*◌, ◌≤◌, ◌≡◌, ◌==◌, true, false, cond, Option, Some, None, is_some}
+use Rattle.std.specs.Prelude.{List, [], ◌∷◌, length, get_or}
 use Rattle.up_model.specs.Reply.{same_flag}
 use Rattle.up_model.specs.declared.entry.Birth.{Birth}
-use Rattle.up_claims.specs.Listed.{Held}
+use Rattle.up_claims.specs.Listed.{ActorClaim}
 use Rattle.up_claims.specs.declared.claim.Claim.{Claim}
 use Rattle.up_claims.specs.declared.claim.Claim.TheVariants.{Fetch, Back}
 use Rattle.up_site.specs.declared.stage.Stage.{Stage}
@@ -20,7 +21,7 @@ claim_in_some None = None
 claim_in_some (Some stage) = Some (claim_in stage)
 
 -- the claims of all stages
-abbrev pub held_in : List Tour → List Held
+abbrev pub held_in : List Tour → List ActorClaim
 held_in [] = []
 held_in (tour ∷ rest) = record { who = tour.who; claim = claim_in tour.stage } ∷ held_in rest
 
@@ -32,12 +33,14 @@ stage_at (tour ∷ rest) who = cond (tour.who == who) (Some tour.stage) (stage_a
 -- the stages with this one of an actor: in its place, or as the last
 abbrev pub tours_with : ℕ → Stage → List Tour → List Tour
 tours_with who stage [] = record { who = who; stage = stage } ∷ []
-tours_with who stage (tour ∷ rest) = cond (tour.who == who) (record { who = who; stage = stage } ∷ rest) (tour ∷ tours_with who stage rest)
+tours_with who stage (tour ∷ rest) = cond (tour.who == who) (record { who = who; stage = stage } ∷ rest)
+    (tour ∷ tours_with who stage rest)
 
 -- the stages without an actor's
 abbrev pub tours_without : ℕ → List Tour → List Tour
 tours_without who [] = []
-tours_without who (tour ∷ rest) = cond (tour.who == who) (tours_without who rest) (tour ∷ tours_without who rest)
+tours_without who (tour ∷ rest) = cond (tour.who == who) (tours_without who rest) (tour ∷ tours_without who
+    rest)
 
 -- the byte that an actor has in hand for an offset
 abbrev pub byte_of_block : Option (List ℕ) → ℕ → ℕ
@@ -52,7 +55,8 @@ byte_in_hand _ x = 0
 abbrev pub hands : List Tour → ℕ → ℕ → ℕ
 hands tours who x = byte_in_hand (stage_at tours who) x
 
--- a block that was read is whole; a writeback has a number exactly where the object is numbered; a copy has all bytes of its pages, of
+-- a block that was read is whole; a writeback has a number exactly where the object is numbered; a copy has
+-- all bytes of its pages, of
 -- which at most all were stored
 abbrev pub IsWhole : Option (List ℕ) → Type 0
 IsWhole None = Unit {0}
@@ -62,7 +66,8 @@ abbrev pub Shaped : Birth → Stage → Type 0
 Shaped birth (Fetched page block) = IsWhole block
 Shaped birth (Begun range number) = same_flag birth.numbered (is_some number) ≡ true
 Shaped birth (Copied range number bytes stored) =
-    (same_flag birth.numbered (is_some number) ≡ true) × (length bytes ≡ 4096 * range.count) × (stored ≤ range.count)
+    (same_flag birth.numbered (is_some number) ≡ true) × (length bytes ≡ 4096 * range.count) × (stored ≤
+    range.count)
 
 abbrev pub AllShaped : Birth → List Tour → Type 0
 AllShaped birth [] = Unit {0}

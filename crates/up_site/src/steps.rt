@@ -1,5 +1,5 @@
 //! The steps of the sample pager, one by one.
-ghost use Rattle.std.specs.Prelude.{◌≡◌, ℕ, ◌+◌, ◌^◌, ◌<◌, Some, None, true, false, [], IfOk, OnOk, OnErr, IsTrue};
+ghost use Rattle.std.specs.Prelude.{◌≡◌, ℕ, ◌+◌, ◌^◌, ◌<◌, Some, None, true, false, [], IfOk, OnErr};
 ghost use Rattle.up_num.specs.Span.{covers};
 ghost use Rattle.up_num.specs.declared.answers.AskKind.TheVariants.{Read as ReadAsk};
 ghost use Rattle.up_num.specs.declared.answers.Code.TheVariants.{Io as IoCode, NoSpace as NoSpaceCode};
@@ -10,19 +10,23 @@ ghost use Rattle.up_model.specs.Reply.{brings};
 ghost use Rattle.up_model.specs.declared.entry.Call.TheVariants as calls;
 ghost use Rattle.up_object.specs.Parts.{bank_of};
 ghost use Rattle.up_object.specs.Change.{AllAre};
-ghost use Rattle.up_object.specs.Steps.{Steps, brought_of, frames_of};
+ghost use Rattle.up_object.specs.OneCall.{DoesCall, brought_of, frames_of};
 ghost use Rattle.up_claims.specs.Claimed.{one_page, given_number};
 ghost use Rattle.up_claims.specs.Listed.{claimed};
-ghost use Rattle.up_claims.specs.Sited.{Fetching, Flushing};
-ghost use Rattle.up_site.specs.declared.stage.Stage.TheVariants.{Fetched as FetchedStage, Begun as BegunStage};
+ghost use Rattle.up_num.specs.Pages.{page_number};
+ghost use Rattle.up_model.specs.declared.entry.Told.TheVariants as told;
+ghost use Rattle.up_claims.specs.Sited.{Fetching, Storing, Flushing};
+ghost use Rattle.up_site.specs.declared.stage.Stage.TheVariants.{Fetched as FetchedStage};
+ghost use Rattle.up_site.specs.declared.stage.Stage.TheVariants.{Begun as BegunStage};
 ghost use Rattle.up_site.specs.Stages.{stage_at};
 ghost use Rattle.up_site.specs.Places.{IsRead, IsCopied, bytes_held};
-ghost use Rattle.up_site.specs.Made.{Tells};
+ghost use Rattle.up_site.specs.Made.{DoesTell};
+ghost use Rattle.up_site.specs.Standing.{RoseIf, MayBeStored, telling, LeavesDated};
 
 use crate::imaged::Imaged;
-use crate::parts::{read_page, sync_disk};
+use crate::parts::{bytes_in, read_page, sync_disk, write_next};
 use crate::stage::Stage;
-use crate::tours::{bytes_of, set_stage, take_out};
+use crate::tours::{bytes_of, move_on, set_stage, take_out};
 use std::alloc::Global;
 use up_clean::{begin, dirty, end};
 use up_disk::Disk;
@@ -49,9 +53,14 @@ impl<D: Disk> Imaged<D> {
     pub(crate) fn fetch(&mut self, alloc: Global, by: By, page: PageNo) -> ToldStep
         requires asks { asked self.old.whole.birth self.old.whole.journal ReadAsk page.0 ≡ true }
         requires unclaimed { claimed self.old.whole.journal page.0 ≡ false }
-        ensures tells { Tells self.old.whole self.new.whole result by.who by.epoch (Fetching page) }
+        ensures tells { DoesTell self.old.whole self.new.whole result by.who by.epoch (Fetching page) }
         ensures kept { OnErr result (self.new.tours ≡ self.old.tours) }
         ensures start { self.new.start ≡ self.old.start }
+        ensures rose { IfOk result (λ r. RoseIf r.0 (D.faults self.old.disk) (D.faults self.new.disk)) }
+        ensures unread { OnErr result (D.tells ≡ true → D.blocks self.new.disk ≡ D.blocks self.old.disk) }
+        ensures within { LeavesDated (telling D.tells D.count D.blocks D.faults D.lasts D.time D.leaves)
+            self.old.whole.birth
+            self.old.whole.journal self.old.start self.new.disk (D.time self.old.disk) }
     {
         if self.tours.reserve(1).is_err() {
             return Err((Memory {}, Frames::new(alloc)));
@@ -75,9 +84,11 @@ impl<D: Disk> Imaged<D> {
     pub(crate) fn fail_page(&mut self, alloc: Global, by: By, page: PageNo) -> Step
         requires stage { stage_at self.old.tours by.who ≡ Some (FetchedStage page None) }
         requires small { page.0 + 1 < 2 ^ 32 }
-        ensures steps { Steps self.old.whole self.new.whole result by.who by.epoch (calls.Fail (one_page page.0) IoCode) [] }
+        ensures steps { DoesCall self.old.whole self.new.whole result by.who by.epoch (calls.Fail (one_page
+            page.0) IoCode) [] }
         ensures kept { OnErr result (self.new.tours ≡ self.old.tours) }
         ensures start { self.new.start ≡ self.old.start }
+        ensures disk { self.new.disk ≡ self.old.disk }
     {
         let stepped = fail(
             &mut self.object,
@@ -91,7 +102,8 @@ impl<D: Disk> Imaged<D> {
         Ok(stepped)
     }
 
-    // Supplies the page whose block was read. The bytes are copied first, so that after want of memory they still are in hand.
+    // Supplies the page whose block was read. The bytes are copied first, so that after want of memory they
+    // still are in hand.
     pub(crate) fn supply_page(
         &mut self,
         alloc: Global,
@@ -103,10 +115,12 @@ impl<D: Disk> Imaged<D> {
         requires own { AllAre (bank_of self.old.whole.banks OrdinaryKind) (frames_of frames) }
         requires brings { brings 1 (brought_of frames) ≡ true }
         requires small { page.0 + 1 < 2 ^ 32 }
-        ensures steps { Steps self.old.whole self.new.whole result by.who by.epoch
-            (calls.Supply (one_page page.0) (bytes_held (stage_at self.old.tours by.who)) (brought_of frames)) (frames_of frames) }
+        ensures steps { DoesCall self.old.whole self.new.whole result by.who by.epoch
+            (calls.Supply (one_page page.0) (bytes_held (stage_at self.old.tours by.who)) (brought_of
+            frames)) (frames_of frames) }
         ensures kept { OnErr result (self.new.tours ≡ self.old.tours) }
         ensures start { self.new.start ≡ self.old.start }
+        ensures disk { self.new.disk ≡ self.old.disk }
     {
         // Only the fact that frames which are given are some is wanted.
         let _ = frames.brought();
@@ -129,11 +143,14 @@ impl<D: Disk> Imaged<D> {
     // Begins the writeback of unclean pages that nobody claims.
     pub(crate) fn begin_run(&mut self, alloc: Global, by: By, range: PageRange, zero: bool) -> Step
         requires free { stage_at self.old.tours by.who ≡ None }
-        requires unclean { (p : ℕ) → covers range p ≡ true → unclean self.old.whole.birth self.old.whole.journal p ≡ true }
+        requires unclean { (p : ℕ) → covers range p ≡ true
+            → unclean self.old.whole.birth self.old.whole.journal p ≡ true }
         requires unclaimed { (p : ℕ) → covers range p ≡ true → claimed self.old.whole.journal p ≡ false }
-        ensures steps { Steps self.old.whole self.new.whole result by.who by.epoch (calls.Begin range zero) [] }
+        ensures steps { DoesCall self.old.whole self.new.whole result by.who by.epoch (calls.Begin range zero)
+            [] }
         ensures kept { OnErr result (self.new.tours ≡ self.old.tours) }
         ensures start { self.new.start ≡ self.old.start }
+        ensures disk { self.new.disk ≡ self.old.disk }
     {
         if self.tours.reserve(1).is_err() {
             return Err((Memory {}, Frames::new(alloc)));
@@ -142,6 +159,75 @@ impl<D: Disk> Imaged<D> {
         let number = number_of(&stepped.reply);
         set_stage(&mut self.tours, by.who, Stage::Begun { range, number });
         Ok(stepped)
+    }
+
+    // Copies the bytes of the pages whose writeback has begun.
+    pub(crate) fn copy_range(
+        &mut self,
+        alloc: Global,
+        by: By,
+        range: PageRange,
+        number: Option<u64>,
+    ) -> Step
+        requires begun { stage_at self.old.tours by.who ≡ Some (BegunStage range number) }
+        ensures steps { DoesCall self.old.whole self.new.whole result by.who by.epoch (calls.Tell (told.Copied
+            range)) [] }
+        ensures kept { OnErr result (self.new.tours ≡ self.old.tours) }
+        ensures start { self.new.start ≡ self.old.start }
+        ensures disk { self.new.disk ≡ self.old.disk }
+    {
+        if self.tours.reserve(1).is_err() {
+            return Err((Memory {}, Frames::new(alloc)));
+        }
+        let Ok(bytes) = bytes_in(&self.object, alloc, range) else {
+            return Err((Memory {}, Frames::new(alloc)));
+        };
+        let told = Told::Copied(range);
+        let stepped = tell(&mut self.object, alloc, by.who, by.epoch, told)?;
+        let stage = Stage::Copied {
+            range,
+            number,
+            bytes,
+            stored: 0,
+        };
+        set_stage(&mut self.tours, by.who, stage);
+        Ok(stepped)
+    }
+
+    // Writes the block of the next page of a copy. After want of memory it may be written or not, and is
+    // taken as not written.
+    pub(crate) fn store_page(
+        &mut self,
+        alloc: Global,
+        by: By,
+        range: PageRange,
+        number: Option<u64>,
+        done: u32,
+    ) -> ToldStep
+        requires copied { IsCopied self.old.tours by.who range number done }
+        requires less { done < range.count }
+        ensures tells { DoesTell self.old.whole self.new.whole result by.who by.epoch (Storing (page_number
+            (range.first + done))) }
+        ensures kept { OnErr result (self.new.tours ≡ self.old.tours) }
+        ensures start { self.new.start ≡ self.old.start }
+        ensures rose { IfOk result (λ r. RoseIf r.0 (D.faults self.old.disk) (D.faults self.new.disk)) }
+        ensures unstored { OnErr result (D.tells ≡ true
+            → MayBeStored (D.blocks self.old.disk) (D.blocks self.new.disk)
+            (range.first + done) done (stage_at self.old.tours by.who)) }
+        ensures within { LeavesDated (telling D.tells D.count D.blocks D.faults D.lasts D.time D.leaves)
+            self.old.whole.birth
+            self.old.whole.journal self.old.start self.new.disk (D.time self.old.disk) }
+    {
+        let ok = write_next(&mut self.disk, &self.tours, by.who, range, number, done);
+        let page = PageNo(range.first + done);
+        let told = Told::Stored { page, ok };
+        let stepped = tell(&mut self.object, alloc, by.who, by.epoch, told)?;
+        if !ok {
+            take_out(&mut self.tours, by.who);
+            return Ok((false, stepped));
+        }
+        move_on(&mut self.tours, by.who, range, number, done);
+        Ok((true, stepped))
     }
 
     // Ends the writeback of which all pages were stored.
@@ -153,9 +239,11 @@ impl<D: Disk> Imaged<D> {
         number: Option<u64>,
     ) -> Step
         requires copied { IsCopied self.old.tours by.who range number range.count }
-        ensures steps { Steps self.old.whole self.new.whole result by.who by.epoch (calls.End range number) [] }
+        ensures steps { DoesCall self.old.whole self.new.whole result by.who by.epoch (calls.End range number)
+            [] }
         ensures kept { OnErr result (self.new.tours ≡ self.old.tours) }
         ensures start { self.new.start ≡ self.old.start }
+        ensures disk { self.new.disk ≡ self.old.disk }
     {
         let stepped = end(&mut self.object, alloc, by.who, by.epoch, range, number)?;
         take_out(&mut self.tours, by.who);
@@ -164,9 +252,14 @@ impl<D: Disk> Imaged<D> {
 
     // Syncs the disk.
     pub(crate) fn flush(&mut self, alloc: Global, by: By) -> ToldStep
-        ensures tells { Tells self.old.whole self.new.whole result by.who by.epoch Flushing }
+        ensures tells { DoesTell self.old.whole self.new.whole result by.who by.epoch Flushing }
         ensures kept { self.new.tours ≡ self.old.tours }
         ensures start { self.new.start ≡ self.old.start }
+        ensures rose { IfOk result (λ r. RoseIf r.0 (D.faults self.old.disk) (D.faults self.new.disk)) }
+        ensures unread { OnErr result (D.tells ≡ true → D.blocks self.new.disk ≡ D.blocks self.old.disk) }
+        ensures within { LeavesDated (telling D.tells D.count D.blocks D.faults D.lasts D.time D.leaves)
+            self.old.whole.birth
+            self.old.whole.journal self.old.start self.new.disk (D.time self.old.disk) }
     {
         let ok = sync_disk(&mut self.disk);
         let stepped = tell(
@@ -181,9 +274,10 @@ impl<D: Disk> Imaged<D> {
 
     // Takes the next packet.
     pub(crate) fn take_packet(&mut self, alloc: Global, by: By) -> Step
-        ensures steps { Steps self.old.whole self.new.whole result by.who by.epoch calls.Packet [] }
+        ensures steps { DoesCall self.old.whole self.new.whole result by.who by.epoch calls.Packet [] }
         ensures kept { self.new.tours ≡ self.old.tours }
         ensures start { self.new.start ≡ self.old.start }
+        ensures disk { self.new.disk ≡ self.old.disk }
     {
         let stepped = packet(&mut self.object, alloc, by.who, by.epoch)?;
         Ok(stepped)
@@ -198,9 +292,11 @@ impl<D: Disk> Imaged<D> {
         frames: FramesIn,
     ) -> Step
         requires own { AllAre (bank_of self.old.whole.banks OrdinaryKind) (frames_of frames) }
-        ensures steps { Steps self.old.whole self.new.whole result by.who by.epoch (calls.Dirty range (brought_of frames)) (frames_of frames) }
+        ensures steps { DoesCall self.old.whole self.new.whole result by.who by.epoch (calls.Dirty range
+            (brought_of frames)) (frames_of frames) }
         ensures kept { self.new.tours ≡ self.old.tours }
         ensures start { self.new.start ≡ self.old.start }
+        ensures disk { self.new.disk ≡ self.old.disk }
     {
         // Only the fact that frames which are given are some is wanted.
         let _ = frames.brought();
@@ -212,9 +308,11 @@ impl<D: Disk> Imaged<D> {
     pub(crate) fn deny(&mut self, alloc: Global, by: By, page: PageNo) -> Step
         requires small { page.0 + 1 < 2 ^ 32 }
         requires free { stage_at self.old.tours by.who ≡ None }
-        ensures steps { Steps self.old.whole self.new.whole result by.who by.epoch (calls.Fail (one_page page.0) NoSpaceCode) [] }
+        ensures steps { DoesCall self.old.whole self.new.whole result by.who by.epoch (calls.Fail (one_page
+            page.0) NoSpaceCode) [] }
         ensures kept { self.new.tours ≡ self.old.tours }
         ensures start { self.new.start ≡ self.old.start }
+        ensures disk { self.new.disk ≡ self.old.disk }
     {
         let stepped = fail(
             &mut self.object,

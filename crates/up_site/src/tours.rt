@@ -100,7 +100,8 @@ pub(crate) fn move_on(
 )
     requires copied { IsCopied tours.old.items who range number done }
     requires less { done < range.count }
-    ensures { (bytes : List ℕ) → stage_at tours.old.items who ≡ Some (CopiedStage range number bytes done) → tours.new.items ≡ tours_with who (CopiedStage range number bytes (suc done)) tours.old.items }
+    ensures { (bytes : List ℕ) → stage_at tours.old.items who ≡ Some (CopiedStage range number bytes done)
+        → tours.new.items ≡ tours_with who (CopiedStage range number bytes (suc done)) tours.old.items }
 {
     let place = place_of(tours, who);
     match &mut tours[place].stage {

@@ -1,6 +1,6 @@
 use Rattle.std.proofs.Common.{◌≡◌, ◌+◌, sym, subst, rules, arith}
 use Rattle.up_claims.specs.Slots.{FoundBefore, earlier, in_way}
-use Rattle.up_claims.proofs.Ways.{found_more}
+use Rattle.up_claims.proofs.ClaimsInTheWay.{found_more}
 use Rattle.up_claims.proofs.claims.first_in_way.Goals as goal
 
 pub loop-place-preserved : goal.loop-place-preserved

@@ -1,4 +1,4 @@
-use Rattle.up_claims.proofs.Listing.{unclaimed, held_claimed, over_claimed}
+use Rattle.up_claims.proofs.ClaimLists.{unclaimed, held_claimed, over_claimed}
 use Rattle.up_claims.proofs.laws.a_page_is_claimed_by_an_actor.Goals as goal
 
 pub returns-clause-free : goal.returns-clause-free

@@ -1,4 +1,4 @@
-use Rattle.up_claims.proofs.Listing.{claims_are, claims_once}
+use Rattle.up_claims.proofs.ClaimLists.{claims_are, claims_once}
 use Rattle.up_claims.proofs.laws.the_list_has_each_claim.Goals as goal
 
 pub returns-clause-are : goal.returns-clause-are

@@ -1,4 +1,4 @@
-use Rattle.up_coherence.proofs.Sounds.{sound_first, sound_more}
+use Rattle.up_coherence.proofs.SoundSites.{sound_first, sound_more}
 use Rattle.up_coherence.proofs.laws.all_promises_go_on.Goals as goal
 
 pub returns-clause-first : goal.returns-clause-first

@@ -1,4 +1,4 @@
-use Rattle.up_coherence.proofs.Promised.{syncing_survey, syncing_more, syncing_less, syncing_clear, syncing_flushed}
+use Rattle.up_coherence.proofs.SyncPromise.{syncing_survey, syncing_more, syncing_less, syncing_clear, syncing_flushed}
 use Rattle.up_coherence.proofs.promises.a_sync_keeps_its_promise.Goals as goal
 
 pub returns-clause-begins : goal.returns-clause-begins

@@ -1,4 +1,4 @@
-use Rattle.up_coherence.proofs.Promised.{reached_now}
+use Rattle.up_coherence.proofs.SyncPromise.{reached_now}
 use Rattle.up_coherence.proofs.LastRest.{reached_stored}
 use Rattle.up_coherence.proofs.promises.what_is_written_back_is_reached.Goals as goal
 

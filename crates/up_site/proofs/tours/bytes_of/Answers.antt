@@ -9,9 +9,13 @@ pub returns-then-place-len : goal.returns-then-place-len
 returns-then-place-len c =
     let low : c.place_of-place.result < length c.args.tours.now.items = omega arith in
     subst (λ (s : Option Stage). IfOk c.held_in.result (λ bytes. bytes ≡ bytes_held s))
-    (sym (tour_read c.args.who c.args.tours.now.items c.place_of-place.result c.index.result.now c.place_of-place.ensures.value low c.index.ensures).1) c.held_in.ensures
+    (sym (tour_read c.args.who c.args.tours.now.items c.place_of-place.result c.index.result.now
+    c.place_of-place.ensures.value low c.index.ensures).1) c.held_in.ensures
 
 pub returns-else-place-len : goal.returns-else-place-len
 returns-else-place-len c =
-    let past : length c.args.tours.now.items ≤ place_at c.args.tours.now.items c.args.who = omega (arith, c.place_of-place.ensures.value) in
+    let past : length c.args.tours.now.items ≤ place_at c.args.tours.now.items c.args.who = omega (
+      arith,
+      c.place_of-place.ensures.value,
+    ) in
     c.new.ensures ∙ ap bytes_held (sym (none_at c.args.who c.args.tours.now.items past))

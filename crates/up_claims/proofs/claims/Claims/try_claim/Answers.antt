@@ -1,7 +1,7 @@
 use Rattle.std.proofs.Common.{List, Option, subst}
 use Rattle.up_num.specs.Span.{Span}
 use Rattle.up_claims.specs.Slots.{IsClaimed, IsInTheWay}
-use Rattle.up_claims.proofs.Ways.{stands_in_the_way, is_claimed, disjoint_more}
+use Rattle.up_claims.proofs.ClaimsInTheWay.{stands_in_the_way, is_claimed, disjoint_more}
 use Rattle.up_claims.proofs.claims.Claims.try_claim.Goals as goal
 
 pub returns-in-Some-clause-taken : goal.returns-in-Some-clause-taken

@@ -13,7 +13,14 @@ use Rattle.up_site.proofs.imaged.Imaged.fail_page.Goals as goal
 
 pub invariant_of-self-2 : goal.invariant_of-self-2
 invariant_of-self-2 g c =
-    let stage : stage_at c.self.inside.tours.items c.args.by.who ≡ Some (Fetched c.args.page None) = subst (λ (v : Sited g.row.D.Denot). stage_at v.tours c.args.by.who ≡ Some (Fetched c.args.page None)) (sym c.self.view_is) c.requires.stage in
-    let object : c.fail.new.object ≡ after c.self.inside.object c.args.by.who c.args.by.epoch (calls.Fail (one_page c.args.page.0) Io) =
-    c.in_ok-stepped.ensures.object ∙ ap (λ (r : Span). after c.self.inside.object c.args.by.who c.args.by.epoch (calls.Fail r Io)) c.one_page.ensures in
-    rw (object, c.take_out.ensures) (site_failed (telling g.D.Disk.tells g.D.Disk.count g.D.Disk.blocks g.D.Disk.faults) c.self.inside.object.birth c.self.inside.object.journal c.self.inside.start.value c.self.inside.disk c.self.inside.tours.items c.self.invariant c.args.by.who c.args.by.epoch c.args.page None Io stage)
+    let stage : stage_at c.self.inside.tours.items c.args.by.who ≡ Some (Fetched c.args.page None) = subst
+    (λ (v : Sited g.row.D.Denot). stage_at v.tours c.args.by.who ≡ Some (Fetched c.args.page None))
+    (sym c.self.view_is) c.requires.stage in
+    let object : c.fail.new.object ≡ after c.self.inside.object c.args.by.who c.args.by.epoch (calls.Fail
+    (one_page c.args.page.0) Io) =
+    c.in_ok-stepped.ensures.object ∙ ap (λ (r : Span). after c.self.inside.object c.args.by.who
+    c.args.by.epoch (calls.Fail r Io)) c.one_page.ensures in
+    rw (object, c.take_out.ensures) (site_failed (telling g.D.Disk.tells g.D.Disk.count g.D.Disk.blocks
+    g.D.Disk.faults g.D.Disk.lasts g.D.Disk.time g.D.Disk.leaves) c.self.inside.object.birth
+    c.self.inside.object.journal c.self.inside.start.value c.self.inside.disk c.self.inside.tours.items
+    c.self.invariant c.args.by.who c.args.by.epoch c.args.page None Io stage)

@@ -4,4 +4,6 @@ use Rattle.up_site.proofs.imaged.Imaged.new.Goals as goal
 
 pub invariant_of-result : goal.invariant_of-result
 invariant_of-result g c =
-    rw (c.requires.first, c.of-start.ensures, c.new.ensures.items) (site_first (telling g.D.Disk.tells g.D.Disk.count g.D.Disk.blocks g.D.Disk.faults) c.args.object.birth c.args.disk c.requires.room)
+    rw (c.requires.first, c.of-start.ensures, c.new.ensures.items) (site_first (telling g.D.Disk.tells
+    g.D.Disk.count g.D.Disk.blocks g.D.Disk.faults g.D.Disk.lasts g.D.Disk.time g.D.Disk.leaves)
+    c.args.object.birth c.args.disk g.met.D.Disk.told c.requires.room)

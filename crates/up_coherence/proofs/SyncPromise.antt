@@ -9,7 +9,7 @@ use Rattle.up_model.specs.Legal.{Legal}
 use Rattle.up_model.specs.declared.entry.Birth.{Birth}
 use Rattle.up_model.specs.declared.entry.Entry.{Entry}
 use Rattle.up_model.proofs.Placing.{first_all, first_before}
-use Rattle.up_model.proofs.Resting.{absent_settled}
+use Rattle.up_model.proofs.StateParts.{absent_settled}
 use Rattle.up_coherence.specs.Durable.{tour_at, stores, flushes, rests_within, reached, durable, Throughout, Syncing}
 use Rattle.up_coherence.proofs.Durability.{reached_grows}
 

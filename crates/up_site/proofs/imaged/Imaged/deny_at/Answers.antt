@@ -1,0 +1,26 @@
+use Rattle.std.proofs.Common.{refl}
+use Rattle.up_model.specs.declared.entry.Call.TheVariants as calls
+use Rattle.up_claims.specs.declared.step.SiteReply.TheVariants as answers
+use Rattle.up_num.specs.declared.answers.Code.TheVariants.{NoSpace}
+use Rattle.up_claims.specs.Claimed.{one_page}
+use Rattle.up_site.specs.Standing.{telling}
+use Rattle.up_site.proofs.Unmoved.{fail_holds}
+use Rattle.up_site.proofs.Replied.{gives_none, bare_made}
+use Rattle.up_site.proofs.imaged.Imaged.deny_at.Goals as goal
+
+pub spend-requires : goal.spend-requires
+spend-requires g c = record {
+  none = gives_none c.args.self.now.whole c.deny.new.self.whole c.in-Ok.stepped
+      c.args.by.who c.args.by.epoch (calls.Fail (one_page c.args.page.0) NoSpace) c.in-Ok.ensures.steps
+      (fail_holds c.args.self.now.whole c.args.by.who c.args.by.epoch (one_page c.args.page.0) NoSpace);
+}
+
+pub returns-in-Ok : goal.returns-in-Ok
+returns-in-Ok g c = record {
+  bare = bare_made (telling g.D.Disk.tells g.D.Disk.count g.D.Disk.blocks g.D.Disk.faults g.D.Disk.lasts
+      g.D.Disk.time g.D.Disk.leaves) c.args.self.now c.deny.new.self
+      c.in-Ok.stepped c.args.by.who c.args.by.epoch (calls.Fail (one_page c.args.page.0) NoSpace)
+      answers.Passed c.spend.result c.in-Ok.ensures.steps
+      (fail_holds c.args.self.now.whole c.args.by.who c.args.by.epoch (one_page c.args.page.0) NoSpace)
+      c.in-Ok.ensures.disk c.in-Ok.ensures.start refl c.spend.ensures;
+}

@@ -1,0 +1,28 @@
+use Rattle.std.proofs.Common.{refl}
+use Rattle.up_model.specs.declared.entry.Told.TheVariants as told
+use Rattle.up_claims.specs.declared.step.SiteReply.TheVariants as answers
+use Rattle.up_num.specs.Pages.{page_number}
+use Rattle.up_claims.specs.Sited.{Fetching}
+use Rattle.up_site.specs.Standing.{telling}
+use Rattle.up_site.proofs.Unmoved.{tell_holds}
+use Rattle.up_site.proofs.Replied.{told_none, bare_told}
+use Rattle.up_site.proofs.imaged.Imaged.fetch_at.Goals as goal
+
+pub spend_told-requires : goal.spend_told-requires
+spend_told-requires g c = record {
+  none = told_none c.args.self.now.whole c.fetch.new.self.whole c.in-Ok.ok
+      c.in-Ok.stepped c.args.by.who c.args.by.epoch (Fetching (page_number c.args.page))
+      c.in-Ok.ensures.tells (tell_holds c.args.self.now.whole c.args.by.who c.args.by.epoch (told.Fetched
+      (page_number c.args.page) c.in-Ok.ok));
+}
+
+pub returns-in-Ok : goal.returns-in-Ok
+returns-in-Ok g c = record {
+  bare = bare_told (telling g.D.Disk.tells g.D.Disk.count g.D.Disk.blocks g.D.Disk.faults g.D.Disk.lasts
+      g.D.Disk.time g.D.Disk.leaves) c.args.self.now c.fetch.new.self c.in-Ok.ok
+      c.in-Ok.stepped c.args.by.who c.args.by.epoch (Fetching (page_number c.args.page)) (answers.Fetched
+      (page_number c.args.page) c.in-Ok.ok) c.spend_told.result c.in-Ok.ensures.tells
+      (tell_holds c.args.self.now.whole c.args.by.who c.args.by.epoch (told.Fetched (page_number c.args.page)
+      c.in-Ok.ok)) c.in-Ok.ensures.rose c.in-Ok.ensures.start c.in-Ok.ensures.within (refl) (refl)
+      c.spend_told.ensures;
+}
