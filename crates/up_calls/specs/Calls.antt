@@ -6,13 +6,13 @@ use Rattle.up_model.specs.declared.entry.Role.{Role}
 use Rattle.up_model.specs.declared.entry.Role.TheVariants.{User, Pager}
 use Rattle.up_model.specs.declared.entry.HintKind.TheVariants.{Always, Cold}
 use Rattle.up_model.specs.declared.entry.Told.TheVariants as tells
-use Rattle.up_words.specs.Steps.{◌>>=◌, or_why}
+use Rattle.up_words.specs.ReadSteps.{◌>>=◌, or_why}
 use Rattle.up_words.specs.Words.{word_at, word_is}
 use Rattle.up_words.specs.Numbers.{number_between}
 use Rattle.up_words.specs.Runs.{runs_in, spread}
 use Rattle.up_words.specs.declared.fault.Why.{Why}
 use Rattle.up_words.specs.declared.fault.Why.TheVariants.{Word}
-use Rattle.up_words.specs.declared.runs.Runs.{Runs}
+use Rattle.up_words.specs.declared.runs.ByteRuns.{ByteRuns}
 use Rattle.up_fields.specs.Fields.{is_found, flag_in, page_in, range_in}
 use Rattle.up_calls.specs.Frames.{is_frames, frames_in}
 use Rattle.up_words.specs.Refusals.{code_in}
@@ -172,7 +172,7 @@ with_bytes bytes (calls.Supply range old brought) = calls.Supply range bytes bro
 with_bytes bytes call = call
 
 -- the call, with the bytes of these runs where it has any
-abbrev pub filled_call : Call → Option Runs → Call
+abbrev pub filled_call : Call → Option ByteRuns → Call
 filled_call call None = call
 filled_call call (Some runs) = with_bytes (spread runs.found) call
 

@@ -3,7 +3,7 @@ use Rattle.std.specs.Prelude.{ℕ, ◌==◌, ◌||◌, Bool, true, cond, List, �
 use Rattle.std.specs.Str.{bytes_eq}
 use Rattle.up_model.specs.declared.entry.Brought.{Brought}
 use Rattle.up_model.specs.declared.entry.Brought.TheVariants.{Nothing, Frames, Scanned}
-use Rattle.up_words.specs.Steps.{◌>>=◌, check}
+use Rattle.up_words.specs.ReadSteps.{◌>>=◌, check}
 use Rattle.up_words.specs.Numbers.{number_between}
 use Rattle.up_words.specs.declared.fault.Why.{Why}
 use Rattle.up_words.specs.declared.fault.Why.TheVariants.{Word}

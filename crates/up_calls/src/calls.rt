@@ -1,5 +1,5 @@
 ghost use Rattle.std.specs.Prelude.{◌≡◌, IfOk};
-ghost use Rattle.up_words.specs.Steps.{Gives};
+ghost use Rattle.up_words.specs.ReadSteps.{Gives};
 ghost use Rattle.up_calls.specs.Kinds.{call_kinds, end_kind};
 ghost use Rattle.up_calls.specs.Calls.{call_fits, call_in, call_kind, call_of, first_call, last_fits, plain_call, role_of};
 ghost use Rattle.up_calls.specs.declared.kinds.CallKind.TheVariants as kinds;
@@ -12,14 +12,14 @@ use up_fields::{
     read_page, read_range,
 };
 use up_model::{Call, HintKind, Role, Told};
-use up_num::{Items, Memory, PageRange, Piece};
-use up_words::{Runs, Stop, read_between, read_runs, spelled_code, spread_runs};
+use up_num::{Items, Memory, Piece};
+use up_words::{ByteRuns, Stop, read_between, read_runs, spelled_code, spread_runs};
 
 /// A call whose bytes, where it has any, are still runs. The call itself has no bytes then.
 #[derive(Drop)]
 pub struct SpelledCall {
     pub call: Call,
-    pub bytes: Option<Runs>,
+    pub bytes: Option<ByteRuns>,
 }
 
 fn fits_last(kind: CallKind, word: &[u8]) -> bool

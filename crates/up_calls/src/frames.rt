@@ -1,5 +1,5 @@
 ghost use Rattle.std.specs.Prelude.{◌≡◌, ◌==◌, ◌++◌, ◌∷◌, OnOk, get_or};
-ghost use Rattle.up_words.specs.Steps.{Gives};
+ghost use Rattle.up_words.specs.ReadSteps.{Gives};
 ghost use Rattle.up_calls.specs.Frames.{frame_count_in, frames_in, frames_text, is_frames};
 
 use up_fields::{COUNTS, put_number, put_word};

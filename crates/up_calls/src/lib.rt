@@ -1,4 +1,5 @@
 //! The calls of a journal text, both ways: one row of words for each call, which is read back as the same.
+//! Used through `up_text`, by `cases/judge` and `judge_journals`.
 #![tactic(auto)]
 
 mod calls;

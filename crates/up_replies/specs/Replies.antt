@@ -8,13 +8,13 @@ use Rattle.up_num.specs.declared.answers.Code.{Code}
 use Rattle.up_num.specs.declared.pages.PageNo.{PageNo}
 use Rattle.up_model.specs.declared.entry.Reply.{Reply}
 use Rattle.up_model.specs.declared.entry.Reply.TheVariants as replies
-use Rattle.up_words.specs.Steps.{◌>>=◌, or_why}
+use Rattle.up_words.specs.ReadSteps.{◌>>=◌, or_why}
 use Rattle.up_words.specs.Words.{word_at, word_is, verb_is}
 use Rattle.up_words.specs.Numbers.{number_between}
 use Rattle.up_words.specs.Runs.{runs_in, spread}
 use Rattle.up_words.specs.declared.fault.Why.{Why}
 use Rattle.up_words.specs.declared.fault.Why.TheVariants.{Word}
-use Rattle.up_words.specs.declared.runs.Runs.{Runs}
+use Rattle.up_words.specs.declared.runs.ByteRuns.{ByteRuns}
 use Rattle.up_fields.specs.Fields.{is_found, flag_in, page_in, range_in, are_runs, pages_in, runs_of_pages_in, tickets_in}
 use Rattle.up_words.specs.Refusals.{code_in}
 use Rattle.up_replies.specs.Kinds.{reply_verb, reply_size, reply_kinds, numbered_kinds}
@@ -160,7 +160,7 @@ with_bytes bytes (replies.Bytes old) = replies.Bytes bytes
 with_bytes bytes reply = reply
 
 -- the reply, with the bytes of these runs where it has any
-abbrev pub filled_reply : Reply → Option Runs → Reply
+abbrev pub filled_reply : Reply → Option ByteRuns → Reply
 filled_reply reply None = reply
 filled_reply reply (Some runs) = with_bytes (spread runs.found) reply
 

@@ -1,4 +1,5 @@
 //! The replies of a journal text, both ways: one row of words for each reply, which is read back as the same.
+//! Used by itself in `judge_journals` and `pagerd`.
 #![tactic(auto)]
 
 mod kinds;

@@ -1,5 +1,5 @@
 ghost use Rattle.std.specs.Prelude.{◌≡◌, IfOk};
-ghost use Rattle.up_words.specs.Steps.{Gives, or_why};
+ghost use Rattle.up_words.specs.ReadSteps.{Gives, or_why};
 ghost use Rattle.up_words.specs.declared.fault.Why.TheVariants.{Word};
 ghost use Rattle.up_replies.specs.Kinds.{numbered_kinds, reply_kinds};
 ghost use Rattle.up_replies.specs.Replies.{first_reply, fixed_fit, list_fits, page_refusal, plain_refusal, plain_reply, reply_fits, reply_in, reply_kind, reply_of};
@@ -13,13 +13,13 @@ use up_fields::{
 };
 use up_model::Reply;
 use up_num::{Items, Memory, Packet, PageNo, Refusal};
-use up_words::{Runs, Stop, Why, read_between, read_runs, spelled_code, spread_runs};
+use up_words::{ByteRuns, Stop, Why, read_between, read_runs, spelled_code, spread_runs};
 
 /// A reply whose bytes, where it has any, are still runs. The reply itself has no bytes then.
 #[derive(Drop)]
 pub struct SpelledReply {
     pub reply: Reply,
-    pub bytes: Option<Runs>,
+    pub bytes: Option<ByteRuns>,
 }
 
 fn refusal(word: &[u8]) -> Option<Refusal>

@@ -1,12 +1,12 @@
 -- The first line of a script, and the version that it says.
-use Rattle.std.proofs.Common.{◌≡◌, Bool, true, false, ◌||◌, ◌&&◌, not, ⊎_elim, cond, ℕ, ◌≤◌, eqb, length, List, Option, Some, None, refl, sym, subst, arith}
+use Rattle.std.proofs.Common.{◌≡◌, Bool, true, false, ◌||◌, ◌&&◌, not, ⊎_elim, cond, ℕ, ◌≤◌, eqb, length, List, Some, None, refl, sym, subst, arith}
 use Rattle.std.specs.Prelude.{codes}
 use Rattle.std.specs.Str.{bytes_eq}
 use Rattle.std.proofs.lemmas.Bool.{eqb-true}
 use Rattle.up_words.proofs.Decimals.{some_is}
 use Rattle.up_fields.proofs.Listed.{is_free}
 use Rattle.up_fields.proofs.Values.{none_some, either, same_word}
-use Rattle.up_script.specs.Versions.{is_version, has_modes, first_line, version_in}
+use Rattle.up_script.specs.Versions.{is_version, first_line, version_in}
 
 -- a version that was read is one, and the line is that version's
 pub record Says (line : List ℕ) (version : ℕ) : Type 0 where

@@ -1,8 +1,9 @@
 pub mod Counts
-pub mod Doing
+pub mod LineOwners
 pub mod Faults
 pub mod FirstLine
-pub mod Fitting
+pub mod ScriptLimits
+pub mod Leaving
 pub mod OwnActions
 pub mod OwnBack
 pub mod OwnGood

@@ -1,5 +1,5 @@
 -- An action that keeps the limits is read from its words.
-use Rattle.std.proofs.Common.{◌≡◌, ℕ, zero, suc, ◌+◌, ◌*◌, ◌^◌, ◌<◌, ◌≤◌, Bool, true, false, ◌&&◌, ◌||◌, eqb, leb, ltb, not, cond, List, [], ◌∷◌, length, get_or, map, Some, None, Result, Ok, refl, sym, ap, ap₂, subst, ◌∙◌, arith}
+use Rattle.std.proofs.Common.{◌≡◌, ℕ, zero, suc, ◌+◌, ◌*◌, ◌^◌, ◌<◌, Bool, true, false, ◌&&◌, ◌||◌, eqb, leb, ltb, not, cond, List, [], ◌∷◌, length, get_or, map, Some, None, Result, Ok, refl, ap, ◌∙◌, arith}
 use Rattle.std.specs.Fmt.{decimal}
 use Rattle.std.specs.Prelude.{codes}
 use Rattle.std.specs.List.{list_all, list_any, position, position_or_len}
@@ -8,14 +8,13 @@ use Rattle.std.proofs.lemmas.Bool.{and_parts, eqb-true, le-leb, leb-true, lt-ltb
 use Rattle.std.proofs.lemmas.List.{length-map}
 use Rattle.std.proofs.lemmas.Slice.Eq.{bytes_eq-Decides}
 use Rattle.up_num.specs.Span.{Span}
-use Rattle.up_model.specs.declared.entry.Brought.{Brought}
 use Rattle.up_model.specs.declared.entry.Brought.TheVariants.{Nothing, Frames, Scanned}
 use Rattle.up_model.specs.declared.entry.Call.{Call}
 use Rattle.up_model.specs.declared.entry.Call.TheVariants as calls
 use Rattle.up_model.specs.declared.entry.HintKind.TheVariants as hints
 use Rattle.up_words.specs.Numbers.{number_between}
-use Rattle.up_words.specs.Runs.{too_many, spread, bytes_between, bytes_text}
-use Rattle.up_words.specs.Steps.{◌>>=◌, or_why}
+use Rattle.up_words.specs.Runs.{too_many, bytes_between, bytes_text}
+use Rattle.up_words.specs.ReadSteps.{or_why}
 use Rattle.up_words.specs.Words.{word_at, is_byte}
 use Rattle.up_words.specs.declared.fault.Why.{Why}
 use Rattle.up_words.specs.declared.fault.Why.TheVariants as why
@@ -25,13 +24,11 @@ use Rattle.up_fields.specs.Text.{code_text}
 use Rattle.up_fields.proofs.Values.{number_again, code_again}
 use Rattle.up_script.specs.Actions.{range_in}
 use Rattle.up_script.specs.Declarations.{object_in}
-use Rattle.up_script.specs.Fit.{are_unlike, may_do}
+use Rattle.up_script.specs.Fit.{are_unlike, may_do, LeavesAs}
 use Rattle.up_script.specs.Laws.{IsReadAs, ReadsItsAction}
-use Rattle.up_script.specs.Sound.{is_within, is_sound_range, is_sound_number, brings_nothing, is_sound_call, is_sound_action}
+use Rattle.up_script.specs.Sound.{is_within, is_sound_range, is_sound_number, is_sound_call}
 use Rattle.up_script.specs.Text.{action_words, object_names}
-use Rattle.up_script.specs.Verbs.{role_of}
-use Rattle.up_script.specs.Versions.{has_modes}
-use Rattle.up_script.specs.Whole.{has_bytes, is_spoken_in, LeavesAs}
+use Rattle.up_script.specs.Whole.{has_bytes, is_spoken_in}
 use Rattle.up_script.specs.declared.declarations.Declared.{Declared}
 use Rattle.up_script.specs.declared.script.Action.{Action}
 use Rattle.up_script.specs.declared.script.Action.TheVariants as actions

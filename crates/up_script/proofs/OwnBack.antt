@@ -1,44 +1,41 @@
 -- A script that keeps the limits is read from its text: one line after the other.
-use Rattle.std.proofs.Common.{◌≡◌, ℕ, zero, suc, ◌+◌, ◌-◌, ◌/◌, ◌^◌, ◌<◌, ◌≤◌, ⊎_elim, Bool, true, false, ◌&&◌, ◌||◌, eqb, leb, ltb, not, cond, is_some, List, [], ◌∷◌, ◌++◌, length, get_or, map, Option, Some, None, Result, Ok, Err, refl, sym, ap, ap₂, subst, ◌∙◌, append_assoc, append-nil, arith}
+use Rattle.std.proofs.Common.{◌≡◌, ℕ, zero, suc, ◌+◌, ◌-◌, ◌/◌, ◌^◌, ◌<◌, ◌≤◌, ⊎_elim, Bool, true, false, ◌&&◌, ◌||◌, eqb, leb, ltb, not, cond, is_some, List, [], ◌∷◌, ◌++◌, length, get_or, map, Option, Some, None, Result, Ok, refl, sym, ap, ap₂, subst, ◌∙◌, append_assoc, append-nil, arith}
 use Rattle.std.specs.Fmt.{decimal}
 use Rattle.std.specs.Prelude.{codes, slice_get}
 use Rattle.std.specs.List.{list_all, list_any, sum_by, position}
 use Rattle.std.specs.Str.{bytes_eq}
-use Rattle.std.proofs.lemmas.Bool.{and_parts, eqb-true, eq-eqb, ne_eqb, lt-ltb, ltb-true, ltb-false, le-leb, leb-true, not-true, cases_Bool}
+use Rattle.std.proofs.lemmas.Bool.{and_parts, eqb-true, ne_eqb, lt-ltb, ltb-true, ltb-false, le-leb, leb-true, not-true, cases_Bool}
 use Rattle.std.proofs.lemmas.List.{length-append, length-map, map-append}
 use Rattle.std.proofs.lemmas.List.Folds.{list_any-append}
 use Rattle.std.proofs.lemmas.List.Quantifiers.{position-Some}
 use Rattle.std.proofs.lemmas.List.Sums.{sum_by-cons}
 use Rattle.up_model.specs.declared.entry.Call.TheVariants as calls
 use Rattle.up_words.specs.Names.{is_name}
-use Rattle.up_words.specs.Numbers.{number_between}
-use Rattle.up_words.specs.Steps.{◌>>=◌, or_why, each, lines_from}
+use Rattle.up_words.specs.ReadSteps.{◌>>=◌, or_why, each}
 use Rattle.up_words.specs.Words.{word_at, is_word}
 use Rattle.up_words.specs.declared.fault.Why.{Why}
 use Rattle.up_words.specs.declared.fault.Why.TheVariants as why
 use Rattle.up_words.proofs.Decimals.{both}
-use Rattle.up_words.proofs.Steps.{lines_last}
 use Rattle.up_fields.specs.Text.{line_of, flag_text}
 use Rattle.up_fields.proofs.Values.{other_first, first_digit, number_word, number_again, same_word, flag_word}
 use Rattle.up_script.specs.Actions.{act, actor_in, action_in, may_act, object_of, is_bound, kind_of, has_left, with_leave, bytes_of, has_what_it_needs, with_line}
-use Rattle.up_script.specs.Declarations.{is_first, may_loan, may_level, may_object, nothing_declared, frames_line, loan_line, levels_line, new_name, limit_in, image_in, with_object, object_line, bind_step, may_serve, bound_line, first_numbers, evictor_line, is_trap_word, says_numbered, with_all_counted, is_whole}
-use Rattle.up_script.specs.Fit.{are_unlike, names_of, name_in, images_of, names_its_image, is_in_version, is_fit_actor, may_do, suits_object, is_fit_line}
-use Rattle.up_script.specs.Laws.{ReadsItsText}
-use Rattle.up_script.specs.Objects.{object_named, actor_named, image_named, is_image, has_image, is_numbered, is_among, counted, with_counts, is_served}
-use Rattle.up_script.specs.Reading.{nothing_played, declaring, stage_step, is_skipped, line_step, last_step, script_in, script_of}
-use Rattle.up_script.specs.Sound.{is_within, is_sound_limit, is_sound_image, is_fair_object, is_sound_object, is_sound_action, is_sound_line, is_sound}
-use Rattle.up_script.specs.Text.{Written, and_line, header_written, frames_words, loan_words, levels_words, and_loan, are_usual, and_levels, stock_written, limit_text, image_text, mode_words, object_words, and_object, objects_written, kind_text, bound_words, actor_words, and_actor, actors_written, action_words, line_words, and_action, lines_written, object_names, actor_names, script_text}
+use Rattle.up_script.specs.Declarations.{is_first, may_level, may_object, nothing_declared, frames_line, loan_line, levels_line, new_name, limit_in, image_in, with_object, object_line, bind_step, may_serve, bound_line, first_numbers, evictor_line, is_trap_word, says_numbered}
+use Rattle.up_script.specs.Fit.{are_unlike, name_in, images_of, names_its_image, is_in_version, is_fit_actor, may_do, suits_object, is_fit_line, LeavesAs, AllLeave, all_stay, binds_right}
+use Rattle.up_script.specs.Objects.{object_named, actor_named, image_named, is_image, has_image, is_numbered, is_among, with_counts}
+use Rattle.up_script.specs.Reading.{declaring, section_step, is_skipped}
+use Rattle.up_script.specs.Sound.{is_sound_limit, is_sound_image, is_fair_object, is_sound_action, is_sound_line}
+use Rattle.up_script.specs.Text.{TextSoFar, and_line, header_written, frames_words, loan_words, levels_words, and_loan, are_usual, and_levels, limit_text, image_text, mode_words, object_words, and_object, objects_written, kind_text, bound_words, actor_words, and_actor, actors_written, action_words, line_words, and_action, lines_written, object_names, actor_names}
 use Rattle.up_script.specs.Verbs.{verb_of, says}
 use Rattle.up_script.specs.Versions.{is_version, has_modes, object_size, is_mode_word}
-use Rattle.up_script.specs.Whole.{has_bytes, is_spoken_in, LeavesAs, AllLeave, all_stay, binds_right, fits_in, all_fit, loan_fits, levels_fit, frames_of, stock_in, declared_in, steps_in, HasText}
+use Rattle.up_script.specs.Whole.{has_bytes, is_spoken_in, fits_in, all_fit, loan_fits, levels_fit}
 use Rattle.up_script.specs.declared.declarations.Declared.{Declared}
 use Rattle.up_script.specs.declared.declarations.Last.{Last}
 use Rattle.up_script.specs.declared.declarations.Last.TheVariants as last
-use Rattle.up_script.specs.declared.declarations.Stock.{Stock}
+use Rattle.up_script.specs.declared.declarations.FrameCounts.{FrameCounts}
 use Rattle.up_script.specs.declared.played.LeftObject.{LeftObject}
 use Rattle.up_script.specs.declared.played.Played.{Played}
-use Rattle.up_script.specs.declared.reading.Stage.{Stage}
-use Rattle.up_script.specs.declared.reading.Stage.TheVariants as stages
+use Rattle.up_script.specs.declared.reading.Section.{Section}
+use Rattle.up_script.specs.declared.reading.Section.TheVariants as sections
 use Rattle.up_script.specs.declared.script.Action.{Action}
 use Rattle.up_script.specs.declared.script.Action.TheVariants as actions
 use Rattle.up_script.specs.declared.script.ActorLine.{ActorLine}
@@ -47,13 +44,13 @@ use Rattle.up_script.specs.declared.script.Kind.TheVariants.{User, Pager, Worker
 use Rattle.up_script.specs.declared.script.Line.{Line}
 use Rattle.up_script.specs.declared.script.ObjectLine.{ObjectLine}
 use Rattle.up_script.specs.declared.verbs.Verb.{Verb}
-use Rattle.up_script.proofs.Doing.{same_needs}
-use Rattle.up_script.proofs.Fitting.{or_none, any_map, all_weaker, images_push, serves_alike, Alike, same_number, counted_from, count_steps, fits_frames}
+use Rattle.up_script.proofs.LineOwners.{same_needs}
+use Rattle.up_script.proofs.ScriptLimits.{or_none, any_map, images_push, same_number, counted_from}
 use Rattle.up_script.proofs.OwnActions.{none_at, found_at, number_back, action_again}
 use Rattle.up_script.proofs.OwnGood.{name_word, name_first, up_to, limit_word, image_word, kind_word, bound_good, action_good, name_at}
 use Rattle.up_script.proofs.OwnNames.{with_frames, with_loaned, with_marks, with_one}
-use Rattle.up_script.proofs.OwnText.{then_declaring, frames_branch, loan_branch, levels_branch, object_branch, user_branch, pager_branch, worker_branch, evictor_branch, steps_branch}
-use Rattle.up_script.proofs.Spelling.{Rest, Reads, is_past, AreSpoken, add_line, header_reads}
+use Rattle.up_script.proofs.OwnText.{then_declaring, frames_branch, loan_branch, levels_branch, object_branch, user_branch, pager_branch, worker_branch, evictor_branch}
+use Rattle.up_script.proofs.Spelling.{Reads, is_past, add_line, header_reads}
 
 -- words that are words, and that no comment begins
 pub record AreGood (words : List (List ℕ)) : Type 0 where
@@ -62,7 +59,7 @@ pub record AreGood (words : List (List ℕ)) : Type 0 where
   pub shown : is_skipped (line_of words) ≡ false
 
 -- a line that fits in the text at its number
-place_reads : (text : Written) (s t : Stage) (number : ℕ) (words : List (List ℕ)) → Reads text s → is_past s ≡ true → fits_in text number words ≡ true → AreGood words → stage_step number s words ≡ Ok t → Reads (and_line text number words) t
+place_reads : (text : TextSoFar) (s t : Section) (number : ℕ) (words : List (List ℕ)) → Reads text s → is_past s ≡ true → fits_in text number words ≡ true → AreGood words → section_step number s words ≡ Ok t → Reads (and_line text number words) t
 place_reads text s t number words reads past fits good e =
     let p = and_parts (leb text.next number) (leb number 65536 && leb (length (line_of words)) 4096) fits in
     let q = and_parts (leb number 65536) (leb (length (line_of words)) 4096) p.1 in
@@ -70,30 +67,30 @@ place_reads text s t number words reads past fits good e =
     let few = leb-true number 65536 q.0 in
     let here : text.next + (number - text.next) ≡ number = omega (arith, after) in
     add_line text s t number words reads past (omega (arith, here, few)) (record { some = good.some; good = good.good; short = leb-true (length (line_of words)) 4096 q.1; shown = good.shown })
-    (ap (λ n. stage_step n s words) here ∙ e)
+    (ap (λ n. section_step n s words) here ∙ e)
 
 -- a line that is the next one
-pub next_reads : (text : Written) (s t : Stage) (words : List (List ℕ)) → Reads text s → is_past s ≡ true → fits_in text text.next words ≡ true → AreGood words → stage_step text.next s words ≡ Ok t → Reads (and_line text 0 words) t
+pub next_reads : (text : TextSoFar) (s t : Section) (words : List (List ℕ)) → Reads text s → is_past s ≡ true → fits_in text text.next words ≡ true → AreGood words → section_step text.next s words ≡ Ok t → Reads (and_line text 0 words) t
 next_reads text s t words reads past fits good e =
     let p = and_parts (leb text.next text.next) (leb text.next 65536 && leb (length (line_of words)) 4096) fits in
     let q = and_parts (leb text.next 65536) (leb (length (line_of words)) 4096) p.1 in
     let few = leb-true text.next 65536 q.0 in
     let here : text.next + (0 - text.next) ≡ text.next = omega arith in
     add_line text s t 0 words reads past (omega (arith, here, few)) (record { some = good.some; good = good.good; short = leb-true (length (line_of words)) 4096 q.1; shown = good.shown })
-    (ap (λ n. stage_step n s words) here ∙ e)
+    (ap (λ n. section_step n s words) here ∙ e)
 
 -- declarations
-abbrev pub decl : ℕ → Last → Stock → List ObjectLine → List ActorLine → Declared
+abbrev pub decl : ℕ → Last → FrameCounts → List ObjectLine → List ActorLine → Declared
 decl v l stock objects actors = record { version = v; last = l; stock = stock; objects = objects; actors = actors }
 
-abbrev pub stock_with : ℕ → ℕ → ℕ → ℕ → ℕ → ℕ → Stock
+abbrev pub stock_with : ℕ → ℕ → ℕ → ℕ → ℕ → ℕ → FrameCounts
 stock_with frames frames_line loan loan_line warn critical = record { frames = frames; frames_line = frames_line; loan = loan; loan_line = loan_line; warn = warn; critical = critical }
 
 -- the text so far is read to these declarations
-pub record Begun (v : ℕ) (text : Written) (stock : Stock) (objects : List ObjectLine) (may : Last → Bool) : Type 0 where
+pub record Begun (v : ℕ) (text : TextSoFar) (stock : FrameCounts) (objects : List ObjectLine) (may : Last → Bool) : Type 0 where
   pub l : Last
   pub is : may l ≡ true
-  pub reads : Reads text (stages.Declaring (decl v l stock objects []))
+  pub reads : Reads text (sections.Declaring (decl v l stock objects []))
 
 within_is : (low high n : ℕ) → low ≤ n → n ≤ high → (leb low n && leb n high) ≡ true
 within_is low high n a b = both (leb low n) (leb n high) (le-leb low n a) (le-leb n high b)
@@ -101,24 +98,24 @@ within_is low high n a b = both (leb low n) (leb n high) (le-leb low n a) (le-le
 number_good : (verb : List ℕ) (n : ℕ) → is_word verb ≡ true → n < 2 ^ 64 → list_all is_word (verb ∷ decimal n ∷ []) ≡ true
 number_good verb n v fits = rw (v, number_word n fits) refl
 
-pub frames_reads : (v frames line : ℕ) → is_version v ≡ true → 1 ≤ frames → frames ≤ 16384 → fits_in (header_written v) line (frames_words frames) ≡ true → Reads (and_line (header_written v) line (frames_words frames)) (stages.Declaring (with_frames line (nothing_declared v) frames))
+pub frames_reads : (v frames line : ℕ) → is_version v ≡ true → 1 ≤ frames → frames ≤ 16384 → fits_in (header_written v) line (frames_words frames) ≡ true → Reads (and_line (header_written v) line (frames_words frames)) (sections.Declaring (with_frames line (nothing_declared v) frames))
 frames_reads v frames line known some few fits =
     let none = nothing_declared v in
     let read : frames_line line none (frames_words frames) ≡ Ok (with_frames line none frames) = rw (number_again 1 16384 frames (omega arith) (within_is 1 16384 frames some few)) refl in
-    place_reads (header_written v) (stages.Declaring none) (stages.Declaring (with_frames line none frames)) line (frames_words frames) (header_reads v known) refl fits
+    place_reads (header_written v) (sections.Declaring none) (sections.Declaring (with_frames line none frames)) line (frames_words frames) (header_reads v known) refl fits
     (record { some = omega arith; good = number_good (codes "frames") frames refl (omega (arith, few)); shown = refl })
     (frames_branch line none (frames_words frames) refl refl refl ∙ ap then_declaring read)
 
-loan_some : (text : Written) (number loan : ℕ) → ltb 0 loan ≡ true → loan_fits text number loan ≡ fits_in text number (loan_words loan)
+loan_some : (text : TextSoFar) (number loan : ℕ) → ltb 0 loan ≡ true → loan_fits text number loan ≡ fits_in text number (loan_words loan)
 loan_some text number loan e = rw e refl
 
-loan_none : (text : Written) (number loan : ℕ) → ltb 0 loan ≡ false → loan_fits text number loan ≡ eqb number 0
+loan_none : (text : TextSoFar) (number loan : ℕ) → ltb 0 loan ≡ false → loan_fits text number loan ≡ eqb number 0
 loan_none text number loan e = rw e refl
 
-levels_other : (text : Written) (frames warn critical : ℕ) → are_usual frames warn critical ≡ false → levels_fit text frames warn critical ≡ fits_in text text.next (levels_words warn critical)
+levels_other : (text : TextSoFar) (frames warn critical : ℕ) → are_usual frames warn critical ≡ false → levels_fit text frames warn critical ≡ fits_in text text.next (levels_words warn critical)
 levels_other text frames warn critical e = rw e refl
 
-pub loan_reads : (v frames line loan loan_line : ℕ) (text : Written) → loan ≤ 4096 → Reads text (stages.Declaring (with_frames line (nothing_declared v) frames)) → loan_fits text loan_line loan ≡ true
+pub loan_reads : (v frames line loan loan_line : ℕ) (text : TextSoFar) → loan ≤ 4096 → Reads text (sections.Declaring (with_frames line (nothing_declared v) frames)) → loan_fits text loan_line loan ≡ true
     → Begun v (and_loan text loan_line loan) (stock_with frames line loan loan_line (frames / 4) (frames / 8)) [] may_level
 loan_reads v frames line loan number text few reads fits = ⊎_elim some none (cases_Bool (ltb 0 loan))
   where
@@ -132,8 +129,8 @@ loan_reads v frames line loan number text few reads fits = ⊎_elim some none (c
         record {
           l = last.Loan;
           is = refl;
-          reads = subst (λ (w : Written). Reads w (stages.Declaring (with_loaned number d loan))) (sym is)
-              (place_reads text (stages.Declaring d) (stages.Declaring (with_loaned number d loan)) number (loan_words loan) reads refl fit
+          reads = subst (λ (w : TextSoFar). Reads w (sections.Declaring (with_loaned number d loan))) (sym is)
+              (place_reads text (sections.Declaring d) (sections.Declaring (with_loaned number d loan)) number (loan_words loan) reads refl fit
               (record { some = omega arith; good = number_good (codes "loan") loan refl (omega (arith, few)); shown = refl })
               (loan_branch number d (loan_words loan) refl refl refl ∙ ap then_declaring read));
         }
@@ -146,8 +143,8 @@ loan_reads v frames line loan number text few reads fits = ⊎_elim some none (c
         record {
           l = last.Frames;
           is = refl;
-          reads = subst (λ (w : Written). Reads w (stages.Declaring (decl v last.Frames (stock_with frames line loan number (frames / 4) (frames / 8)) [] []))) (sym is)
-              (subst (λ (s : Stage). Reads text s) (ap₂ (λ a b. stages.Declaring (decl v last.Frames (stock_with frames line a b (frames / 4) (frames / 8)) [] [])) zero_loan zero_line) reads);
+          reads = subst (λ (w : TextSoFar). Reads w (sections.Declaring (decl v last.Frames (stock_with frames line loan number (frames / 4) (frames / 8)) [] []))) (sym is)
+              (subst (λ (s : Section). Reads text s) (ap₂ (λ a b. sections.Declaring (decl v last.Frames (stock_with frames line a b (frames / 4) (frames / 8)) [] [])) zero_loan zero_line) reads);
         }
 
 level_object : (l : Last) → may_level l ≡ true → may_object l ≡ true
@@ -166,8 +163,8 @@ object_later last.Levels e = refl
 object_later last.Object e = refl
 object_later last.Actor e = absurd cc
 
-module _ (v frames line loan number warn critical : ℕ) (text : Written) (few : frames ≤ 16384) (warned : warn ≤ frames) (lower : critical ≤ warn) (begun : Begun v text (stock_with frames line loan number (frames / 4) (frames / 8)) [] may_level) (fits : levels_fit text frames warn critical ≡ true) where
-  abbrev pub whole : Stock
+module _ (v frames line loan number warn critical : ℕ) (text : TextSoFar) (few : frames ≤ 16384) (warned : warn ≤ frames) (lower : critical ≤ warn) (begun : Begun v text (stock_with frames line loan number (frames / 4) (frames / 8)) [] may_level) (fits : levels_fit text frames warn critical ≡ true) where
+  abbrev pub whole : FrameCounts
   whole = stock_with frames line loan number warn critical
 
   usual_reads : are_usual frames warn critical ≡ true → Begun v (and_levels text frames warn critical) whole [] may_object
@@ -179,8 +176,8 @@ module _ (v frames line loan number warn critical : ℕ) (text : Written) (few :
       record {
         l = begun.l;
         is = level_object begun.l begun.is;
-        reads = subst (λ (w : Written). Reads w (stages.Declaring (decl v begun.l whole [] []))) (sym is)
-            (subst (λ (s : Stage). Reads text s) (ap₂ (λ a b. stages.Declaring (decl v begun.l (stock_with frames line loan number a b) [] [])) (sym w) (sym c)) begun.reads);
+        reads = subst (λ (w : TextSoFar). Reads w (sections.Declaring (decl v begun.l whole [] []))) (sym is)
+            (subst (λ (s : Section). Reads text s) (ap₂ (λ a b. sections.Declaring (decl v begun.l (stock_with frames line loan number a b) [] [])) (sym w) (sym c)) begun.reads);
       }
 
   levels_read : are_usual frames warn critical ≡ false → Begun v (and_levels text frames warn critical) whole [] may_object
@@ -194,8 +191,8 @@ module _ (v frames line loan number warn critical : ℕ) (text : Written) (few :
       record {
         l = last.Levels;
         is = refl;
-        reads = subst (λ (w : Written). Reads w (stages.Declaring (decl v last.Levels whole [] []))) (sym is)
-            (next_reads text (stages.Declaring d) (stages.Declaring (with_marks d warn critical)) words begun.reads refl fit
+        reads = subst (λ (w : TextSoFar). Reads w (sections.Declaring (decl v last.Levels whole [] []))) (sym is)
+            (next_reads text (sections.Declaring d) (sections.Declaring (with_marks d warn critical)) words begun.reads refl fit
             (record { some = omega arith; good = rw (number_word warn (omega (arith, few, warned)), number_word critical (omega (arith, few, warned, lower))) refl; shown = refl })
             (levels_branch text.next d words refl refl begun.is ∙ ap then_declaring read));
       }
@@ -350,12 +347,12 @@ object_good v o fair within = record {
   shown = refl;
 }
 
-pub objects_read : (v : ℕ) (stock : Stock) (l : Last) (text : Written) (done os : List ObjectLine) → may_object l ≡ true → Reads text (stages.Declaring (decl v l stock done [])) → all_fit (λ object. object.number) (object_words v) text os ≡ true
+pub objects_read : (v : ℕ) (stock : FrameCounts) (l : Last) (text : TextSoFar) (done os : List ObjectLine) → may_object l ≡ true → Reads text (sections.Declaring (decl v l stock done [])) → all_fit (λ object. object.number) (object_words v) text os ≡ true
     → list_all names_its_image os ≡ true → list_all (is_in_version v) os ≡ true → list_all is_fair_object os ≡ true → are_unlike bytes_eq (object_names done ++ object_names os) ≡ true → are_unlike bytes_eq (images_of done ++ images_of os) ≡ true → length done + length os ≤ 16
     → Begun v (objects_written v text os) stock (done ++ map bare os) may_object
 unfolding all_fit images_of
 objects_read v stock l text done [] may reads fits imaged modes fair apart differ few =
-    record { l = l; is = may; reads = subst (λ (xs : List ObjectLine). Reads text (stages.Declaring (decl v l stock xs []))) (sym (append-nil done)) reads }
+    record { l = l; is = may; reads = subst (λ (xs : List ObjectLine). Reads text (sections.Declaring (decl v l stock xs []))) (sym (append-nil done)) reads }
 objects_read v stock l text done (o ∷ os) may reads fits imaged modes fair apart differ few =
     let d = decl v l stock done [] in
     let fit = and_parts (fits_in text o.number (object_words v o)) (all_fit (λ (x : ObjectLine). x.number) (object_words v) (and_object v text o) os) fits in
@@ -365,7 +362,7 @@ objects_read v stock l text done (o ∷ os) may reads fits imaged modes fair apa
     let fa = and_parts (is_fair_object o) (list_all is_fair_object os) fair in
     let one = fair_parts o fa.0 in
     let read = object_again d o (object_names os) (images_of os) one refl apart differ (omega (arith, few)) im.0 mo.0 in
-    let step = place_reads text (stages.Declaring d) (stages.Declaring (with_object d (bare o))) o.number (object_words v o) reads refl fit.0 (object_good v o one mo.0)
+    let step = place_reads text (sections.Declaring d) (sections.Declaring (with_object d (bare o))) o.number (object_words v o) reads refl fit.0 (object_good v o one mo.0)
     (object_branch o.number d (object_words v o) refl has.size (trap_word o.birth.trap) has.mode may ∙ ap then_declaring read) in
     let more = done ++ bare o ∷ [] in
     let names : object_names more ++ object_names os ≡ object_names done ++ object_names (o ∷ os) =
@@ -392,8 +389,8 @@ bare_counted actors n (o ∷ os) = ap (λ xs. with_counts actors n o ∷ xs) (ba
 abbrev pub ok_numbers : List ℕ → Result (List ℕ) Why
 ok_numbers numbers = Ok numbers
 
-abbrev pub ok_stage : Stage → Result Stage Why
-ok_stage stage = Ok stage
+abbrev pub ok_section : Section → Result Section Why
+ok_section section = Ok section
 
 -- the objects of an actor are found by their names
 binds_again : (d : Declared) (bound ks : List ℕ) → are_unlike bytes_eq (object_names d.objects) ≡ true → list_all (λ k. ltb k (length d.objects)) ks ≡ true → are_unlike same_number (bound ++ ks) ≡ true
@@ -435,7 +432,7 @@ module _ (d : Declared) (n : ℕ) (name : List ℕ) (is : is_name name ≡ true)
   bound_again kind word objects inside differ serves = rw (new_again d name is new alone, binds_again d [] objects apart inside differ, serves, few) refl
 
   actor_again : (kind : Kind) (objects : List ℕ) → list_all (λ object. ltb object (length d.objects)) objects ≡ true → are_unlike same_number objects ≡ true → list_all (may_serve kind d.objects) objects ≡ true → binds_right kind (length d.objects) objects ≡ true
-      → declaring n d (kind_text kind ∷ name ∷ bound_words names kind objects) ≡ Ok (stages.Declaring (with_one d (made kind objects)))
+      → declaring n d (kind_text kind ∷ name ∷ bound_words names kind objects) ≡ Ok (sections.Declaring (with_one d (made kind objects)))
   actor_again User objects inside differ serves right =
       let words = codes "user" ∷ name ∷ map (λ object. word_at names object) objects in
       let long : leb 3 (length words) ≡ true = le-leb 3 (length words) (omega (arith, ltb-true 0 (length objects) right, length-map objects (λ object. word_at names object))) in
@@ -452,7 +449,7 @@ module _ (d : Declared) (n : ℕ) (name : List ℕ) (is : is_name name ≡ true)
       let all = same_word objects (first_numbers (length d.objects)) right in
       let read : evictor_line n d (codes "evictor" ∷ name ∷ []) ≡ Ok (with_one d (made Evictor (first_numbers (length d.objects)))) = rw (new_again d name is new alone, few) refl in
       evictor_branch n d (codes "evictor" ∷ name ∷ []) refl refl later ∙ ap then_declaring read
-      ∙ ap (λ (xs : List ℕ). ok_stage (stages.Declaring (with_one d (made Evictor xs)))) (sym all)
+      ∙ ap (λ (xs : List ℕ). ok_section (sections.Declaring (with_one d (made Evictor xs)))) (sym all)
 
 actor_good : (names : List (List ℕ)) (actor : ActorLine) → list_all is_name names ≡ true → is_name actor.name ≡ true → list_all (λ object. ltb object (length names)) actor.objects ≡ true → AreGood (actor_words names actor)
 actor_good names actor all is inside = record {
@@ -468,17 +465,17 @@ actor_good names actor all is inside = record {
     shown_of Evictor more = refl
 
 -- the text so far is read to these declarations, of which an actor may be the last
-pub record Acted (v : ℕ) (text : Written) (stock : Stock) (objects : List ObjectLine) (actors : List ActorLine) : Type 0 where
+pub record Acted (v : ℕ) (text : TextSoFar) (stock : FrameCounts) (objects : List ObjectLine) (actors : List ActorLine) : Type 0 where
   pub l : Last
   pub is : is_first l ≡ false
-  pub reads : Reads text (stages.Declaring (decl v l stock objects actors))
+  pub reads : Reads text (sections.Declaring (decl v l stock objects actors))
 
-pub actors_read : (v : ℕ) (stock : Stock) (l : Last) (objects : List ObjectLine) (text : Written) (done more_actors : List ActorLine) → is_first l ≡ false → Reads text (stages.Declaring (decl v l stock objects done)) → all_fit (λ actor. actor.number) (actor_words (object_names objects)) text more_actors ≡ true
+pub actors_read : (v : ℕ) (stock : FrameCounts) (l : Last) (objects : List ObjectLine) (text : TextSoFar) (done more_actors : List ActorLine) → is_first l ≡ false → Reads text (sections.Declaring (decl v l stock objects done)) → all_fit (λ actor. actor.number) (actor_words (object_names objects)) text more_actors ≡ true
     → list_all is_name (object_names objects) ≡ true → are_unlike bytes_eq (object_names objects) ≡ true → list_all (is_fit_actor objects) more_actors ≡ true → list_all (λ actor. binds_right actor.kind (length objects) actor.objects) more_actors ≡ true
     → are_unlike bytes_eq ((object_names objects ++ actor_names done) ++ actor_names more_actors) ≡ true → length done + length more_actors ≤ 64 → Acted v (actors_written (object_names objects) text more_actors) stock objects (done ++ more_actors)
 unfolding all_fit
 actors_read v stock l objects text done [] later reads fits named apart fit right differ few =
-    record { l = l; is = later; reads = subst (λ (xs : List ActorLine). Reads text (stages.Declaring (decl v l stock objects xs))) (sym (append-nil done)) reads }
+    record { l = l; is = later; reads = subst (λ (xs : List ActorLine). Reads text (sections.Declaring (decl v l stock objects xs))) (sym (append-nil done)) reads }
 actors_read v stock l objects text done (a ∷ more_actors) later reads fits named apart fit right differ few =
     let d = decl v l stock objects done in
     let names = object_names objects in
@@ -493,7 +490,7 @@ actors_read v stock l objects text done (a ∷ more_actors) later reads fits nam
     let alone = unnamed (λ (x : ActorLine). bytes_eq x.name a.name) done (sym (any_map (λ w. bytes_eq w a.name) (λ (x : ActorLine). x.name) done) ∙ both_of.1) in
     let long : length names ≡ length objects = length-map objects (λ (x : ObjectLine). x.name) in
     let inside : list_all (λ object. ltb object (length names)) a.objects ≡ true = subst (λ k. list_all (λ o. ltb o k) a.objects ≡ true) (sym long) one.inside in
-    let step = place_reads text (stages.Declaring d) (stages.Declaring (with_one d a)) a.number words reads refl place.0 (actor_good names a named one.name inside)
+    let step = place_reads text (sections.Declaring d) (sections.Declaring (with_one d a)) a.number words reads refl place.0 (actor_good names a named one.name inside)
     (actor_again d a.number a.name one.name later new alone (lt-ltb (length done) 64 (omega (arith, few))) apart a.kind a.objects one.inside one.apart one.serves r.0) in
     let more = done ++ a ∷ [] in
     let names_more : (names ++ actor_names more) ++ actor_names more_actors ≡ (names ++ actor_names done) ++ actor_names (a ∷ more_actors) =
@@ -561,21 +558,21 @@ line_good objects actors line named called sound bytes =
       shown = name_shown (word_at actors line.actor) (action_words objects line.action) is;
     }
 
-pub record Done (d : Declared) (text : Written) (lines : List Line) : Type 0 where
+pub record ReadBack (d : Declared) (text : TextSoFar) (lines : List Line) : Type 0 where
   pub room : ℕ
   pub left : List LeftObject
-  pub reads : Reads text (stages.Acting d (played lines room left))
+  pub reads : Reads text (sections.Acting d (played lines room left))
 
 abbrev pub bytes_in : Line → ℕ
 bytes_in line = bytes_of line.action
 
-pub lines_read : (d : Declared) (text : Written) (done : List Line) (room : ℕ) (left : List LeftObject) (ls : List Line) → list_all (is_in_version d.version) d.objects ≡ true → Reads text (stages.Acting d (played done room left))
+pub lines_read : (d : Declared) (text : TextSoFar) (done : List Line) (room : ℕ) (left : List LeftObject) (ls : List Line) → list_all (is_in_version d.version) d.objects ≡ true → Reads text (sections.Acting d (played done room left))
     → all_fit (λ line. line.number) (line_words (object_names d.objects) (actor_names d.actors)) text ls ≡ true → list_all is_name (object_names d.objects) ≡ true → list_all is_name (actor_names d.actors) ≡ true
     → are_unlike bytes_eq (object_names d.objects) ≡ true → are_unlike bytes_eq (actor_names d.actors) ≡ true → list_all (is_sound_line (length d.objects) (length d.actors)) ls ≡ true → list_all (λ line. has_bytes line.action) ls ≡ true
-    → AllLeave d.actors ls → list_all (is_fit_line d.objects d.actors) ls ≡ true → all_stay left ls ≡ true → sum_by bytes_in ls ≤ room → Done d (lines_written (object_names d.objects) (actor_names d.actors) text ls) (done ++ ls)
+    → AllLeave d.actors ls → list_all (is_fit_line d.objects d.actors) ls ≡ true → all_stay left ls ≡ true → sum_by bytes_in ls ≤ room → ReadBack d (lines_written (object_names d.objects) (actor_names d.actors) text ls) (done ++ ls)
 unfolding all_fit AllLeave all_stay
 lines_read d text done room left [] modes reads fits named called apart differ sound bytes leaves fit stays few =
-    record { room = room; left = left; reads = subst (λ (xs : List Line). Reads text (stages.Acting d (played xs room left))) (sym (append-nil done)) reads }
+    record { room = room; left = left; reads = subst (λ (xs : List Line). Reads text (sections.Acting d (played xs room left))) (sym (append-nil done)) reads }
 lines_read d text done room left (line ∷ ls) modes reads fits named called apart differ sound bytes leaves fit stays few =
     let objects = object_names d.objects in
     let actors = actor_names d.actors in
@@ -591,7 +588,7 @@ lines_read d text done room left (line ∷ ls) modes reads fits named called apa
     let long_objects : length objects ≡ length d.objects = length-map d.objects (λ (x : ObjectLine). x.name) in
     let long_actors : length actors ≡ length d.actors = length-map d.actors (λ (x : ActorLine). x.name) in
     let sound_words : is_sound_line (length objects) (length actors) line ≡ true = ap₂ (λ a b. is_sound_line a b line) long_objects long_actors ∙ s.0 in
-    let step = place_reads text (stages.Acting d p) (stages.Acting d (with_line p line.number line.actor line.action)) line.number words reads refl place.0 (line_good objects actors line named called sound_words b.0)
-    (ap (λ (r : Result Played Why). r >>= λ more. ok_stage (stages.Acting d more)) read) in
+    let step = place_reads text (sections.Acting d p) (sections.Acting d (with_line p line.number line.actor line.action)) line.number words reads refl place.0 (line_good objects actors line named called sound_words b.0)
+    (ap (λ (r : Result Played Why). r >>= λ more. ok_section (sections.Acting d more)) read) in
     let rest = lines_read d (and_action objects actors text line) (done ++ line ∷ []) (room - bytes_of line.action) (with_leave left line.actor line.action) ls modes step place.1 named called apart differ s.1 b.1 leaves.1 f.1 st.1 (omega (arith, few, sum)) in
-    subst (λ (xs : List Line). Done d (lines_written objects actors (and_action objects actors text line) ls) xs) (append_assoc done (line ∷ []) ls) rest
+    subst (λ (xs : List Line). ReadBack d (lines_written objects actors (and_action objects actors text line) ls) xs) (append_assoc done (line ∷ []) ls) rest

@@ -1,5 +1,5 @@
 -- The words of a script's lines are words.
-use Rattle.std.proofs.Common.{◌≡◌, ℕ, zero, suc, ◌+◌, ◌*◌, ◌^◌, ◌<◌, ◌≤◌, Bool, true, false, ◌&&◌, ◌||◌, eqb, leb, ltb, not, List, [], ◌∷◌, length, get_or, map, Option, Some, None, refl, ap, ◌∙◌, arith}
+use Rattle.std.proofs.Common.{◌≡◌, ℕ, zero, suc, ◌*◌, ◌^◌, ◌<◌, ◌≤◌, Bool, true, false, ◌&&◌, ◌||◌, eqb, leb, ltb, not, List, [], ◌∷◌, length, get_or, map, Option, Some, None, refl, arith}
 use Rattle.std.specs.Fmt.{decimal}
 use Rattle.std.specs.Prelude.{codes}
 use Rattle.std.specs.List.{list_all}
@@ -16,7 +16,7 @@ use Rattle.up_words.proofs.Decimals.{both}
 use Rattle.up_fields.specs.Limits.{all_tickets}
 use Rattle.up_fields.specs.Text.{flag_text, code_text}
 use Rattle.up_fields.proofs.Rows.{bytes_word}
-use Rattle.up_fields.proofs.Values.{number_word, make_word, flag_word, code_word}
+use Rattle.up_fields.proofs.Values.{number_word, flag_word, code_word}
 use Rattle.up_script.specs.Sound.{is_within, is_sound_range, is_sound_number, brings_nothing, is_sound_call, is_sound_action, is_sound_limit, is_sound_image}
 use Rattle.up_script.specs.Text.{limit_text, image_text, kind_text, bound_words, number_words, call_words, action_words}
 use Rattle.up_script.specs.Whole.{has_bytes}

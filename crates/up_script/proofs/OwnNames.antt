@@ -1,22 +1,20 @@
 -- A line that is read has the words of what was read from it: declarations.
-use Rattle.std.proofs.Common.{◌≡◌, ℕ, ◌*◌, ◌/◌, ◌<◌, ◌≤◌, Bool, true, false, ◌&&◌, ◌||◌, ⊎_elim, eqb, leb, ltb, not, cond, is_some, List, [], ◌∷◌, ◌++◌, length, map, drop, Option, Some, None, Result, Ok, Err, refl, sym, ap, ap₂, subst, ◌∙◌, append_assoc, append-nil, arith}
-use Rattle.std.specs.Fmt.{decimal}
+use Rattle.std.proofs.Common.{◌≡◌, ℕ, ◌/◌, ◌<◌, ◌≤◌, Bool, true, false, ◌&&◌, ◌||◌, ⊎_elim, ltb, not, cond, is_some, List, [], ◌∷◌, ◌++◌, length, map, drop, Option, Some, None, Result, Ok, refl, sym, ap, ◌∙◌, append_assoc, append-nil, arith}
 use Rattle.std.specs.Prelude.{codes}
 use Rattle.std.specs.List.{list_all}
 use Rattle.std.specs.Str.{bytes_eq}
-use Rattle.std.proofs.lemmas.Bool.{and_parts}
 use Rattle.std.proofs.lemmas.List.{map-append}
 use Rattle.up_words.specs.Names.{is_name}
 use Rattle.up_words.specs.Numbers.{number_between}
-use Rattle.up_words.specs.Steps.{◌>>=◌, check, each}
-use Rattle.up_words.specs.Words.{word_at, word_is, verb_is}
+use Rattle.up_words.specs.ReadSteps.{◌>>=◌, check, each}
+use Rattle.up_words.specs.Words.{word_at, word_is}
 use Rattle.up_words.specs.declared.fault.Why.{Why}
 use Rattle.up_words.specs.declared.fault.Why.TheVariants as why
 use Rattle.up_words.proofs.Decimals.{then_ok, ok_is}
 use Rattle.up_fields.specs.Text.{flag_text}
 use Rattle.up_fields.proofs.Values.{bind_ok, either, same_word, number_takes}
 use Rattle.up_fields.proofs.Rows.{two, three}
-use Rattle.up_script.specs.Declarations.{frames_line, loan_line, levels_line, new_name, limit_in, image_in, with_loan, with_levels, with_object, object_line, object_in, bind_step, may_serve, with_actor, bound_line, first_numbers, evictor_line, is_trap_word, says_numbered, says_object}
+use Rattle.up_script.specs.Declarations.{frames_line, loan_line, levels_line, new_name, limit_in, image_in, with_loan, with_levels, with_object, object_line, object_in, bind_step, may_serve, bound_line, first_numbers, evictor_line, is_trap_word, says_numbered}
 use Rattle.up_script.specs.Objects.{object_named, actor_named, image_named, is_among}
 use Rattle.up_script.specs.Text.{frames_words, loan_words, levels_words, limit_text, image_text, mode_words, object_words, bound_words, actor_words, object_names, kind_text}
 use Rattle.up_script.specs.Versions.{has_modes, object_size, is_mode_word}
@@ -26,7 +24,7 @@ use Rattle.up_script.specs.declared.script.ActorLine.{ActorLine}
 use Rattle.up_script.specs.declared.script.Kind.{Kind}
 use Rattle.up_script.specs.declared.script.Kind.TheVariants.{User, Pager, Worker, Evictor}
 use Rattle.up_script.specs.declared.script.ObjectLine.{ObjectLine}
-use Rattle.up_script.proofs.Fitting.{number_within}
+use Rattle.up_script.proofs.ScriptLimits.{number_within}
 use Rattle.up_script.proofs.OwnWords.{whole_two, whole_three, whole_six, whole_seven, six_and, object_takes}
 
 -- the declarations after the line of the frames

@@ -1,5 +1,5 @@
 -- A script that keeps the limits is read from its text: all lines together.
-use Rattle.std.proofs.Common.{◌≡◌, ℕ, suc, ◌+◌, ◌<◌, ◌≤◌, Bool, true, false, ◌&&◌, leb, ltb, not, List, [], ◌∷◌, ◌++◌, length, map, Result, Ok, refl, sym, ap, ap₂, subst, ◌∙◌, append-nil, arith}
+use Rattle.std.proofs.Common.{◌≡◌, ℕ, ◌+◌, ◌<◌, ◌≤◌, Bool, true, ◌&&◌, leb, ltb, not, List, [], ◌∷◌, ◌++◌, length, map, Ok, refl, sym, ap, subst, ◌∙◌, append-nil, arith}
 use Rattle.std.specs.Prelude.{codes}
 use Rattle.std.specs.List.{list_all, list_any}
 use Rattle.std.specs.Str.{bytes_eq}
@@ -7,28 +7,23 @@ use Rattle.std.proofs.lemmas.Bool.{and_parts, lt-ltb, le-leb, leb-true, not-true
 use Rattle.std.proofs.lemmas.List.{length-map}
 use Rattle.std.proofs.lemmas.List.Folds.{list_any-append}
 use Rattle.up_words.specs.Names.{is_name}
-use Rattle.up_words.specs.Steps.{◌>>=◌}
-use Rattle.up_words.specs.declared.fault.Fault.{Fault}
-use Rattle.up_words.specs.declared.fault.Why.{Why}
 use Rattle.up_words.proofs.Decimals.{both}
-use Rattle.up_words.proofs.Steps.{lines_last}
+use Rattle.up_words.proofs.ReadSteps.{lines_last}
 use Rattle.up_script.specs.Declarations.{is_first, may_object, is_whole, with_all_counted}
-use Rattle.up_script.specs.Fit.{are_unlike, images_of, is_fit_actor}
+use Rattle.up_script.specs.Fit.{are_unlike, images_of, is_fit_actor, binds_right}
 use Rattle.up_script.specs.Laws.{ReadsItsText}
 use Rattle.up_script.specs.Objects.{counted, is_served}
 use Rattle.up_script.specs.Reading.{nothing_played, line_step, last_step}
 use Rattle.up_script.specs.Sound.{is_within, is_fair_object, is_sound_object, are_sound_objects, are_sound_lines}
-use Rattle.up_script.specs.Text.{Written, and_loan, objects_written, actors_written, actor_words, lines_written, object_names, actor_names, script_text}
-use Rattle.up_script.specs.Whole.{binds_right, all_fit, frames_of, stock_in, declared_in, steps_in, HasText}
-use Rattle.up_script.specs.declared.declarations.Declared.{Declared}
-use Rattle.up_script.specs.declared.declarations.Stock.{Stock}
-use Rattle.up_script.specs.declared.reading.Stage.{Stage}
-use Rattle.up_script.specs.declared.reading.Stage.TheVariants as stages
+use Rattle.up_script.specs.Text.{and_loan, objects_written, actors_written, actor_words, lines_written, object_names, actor_names, script_text}
+use Rattle.up_script.specs.Whole.{all_fit, frames_of, stock_in, declared_in, steps_in, HasText}
+use Rattle.up_script.specs.declared.declarations.FrameCounts.{FrameCounts}
+use Rattle.up_script.specs.declared.reading.Section.TheVariants as sections
 use Rattle.up_script.specs.declared.script.ActorLine.{ActorLine}
 use Rattle.up_script.specs.declared.script.ObjectLine.{ObjectLine}
 use Rattle.up_script.specs.declared.script.Script.{Script}
-use Rattle.up_script.proofs.Fitting.{or_none, all_weaker, all_same, Alike, actor_alike, count_steps, fits_frames}
-use Rattle.up_script.proofs.OwnBack.{Begun, Acted, fair_parts, fit_parts, next_reads, decl, stock_with, ok_stage, played, frames_reads, loan_reads, stock_reads, object_later, bare, bare_names, bare_has, bare_counted, objects_read, actors_read, lines_read}
+use Rattle.up_script.proofs.ScriptLimits.{or_none, all_weaker, all_same, Alike, actor_alike, count_steps, fits_frames}
+use Rattle.up_script.proofs.OwnBack.{Begun, Acted, fair_parts, fit_parts, next_reads, decl, stock_with, ok_section, played, frames_reads, loan_reads, stock_reads, object_later, bare, bare_names, bare_has, bare_counted, objects_read, actors_read, lines_read}
 use Rattle.up_script.proofs.OwnText.{steps_branch}
 use Rattle.up_script.proofs.Spelling.{Rest, Reads}
 
@@ -76,7 +71,7 @@ bare_alike : (os : List ObjectLine) → Alike (map bare os) os
 bare_alike os = record { long = length-map os bare; image = λ place. sym (bare_has os place) }
 
 module _ (script : Script) (t : HasText script) where
-  abbrev stock : Stock
+  abbrev stock : FrameCounts
   stock = stock_with script.frames script.frames_line script.loan script.loan_line script.warn script.critical
 
   abbrev v : ℕ
@@ -131,34 +126,34 @@ module _ (script : Script) (t : HasText script) where
       let long : length objects ≡ length bares = sym (length-map objects bare) in
       let fits = subst (λ ns. all_fit (λ (a : ActorLine). a.number) (actor_words ns) text actors ≡ true) same t.actors in
       let fit = all_same (is_fit_actor bares) (is_fit_actor objects) actors (λ actor. actor_alike bares objects actor (bare_alike objects)) ∙ t.fits.actors in
-      let right = subst (λ n. list_all (λ (a : ActorLine). binds_right a.kind n a.objects) actors ≡ true) long t.bound in
+      let right = subst (λ n. list_all (λ (a : ActorLine). binds_right a.kind n a.objects) actors ≡ true) long t.fits.bound in
       let differ : are_unlike bytes_eq ((object_names bares ++ actor_names []) ++ actor_names actors) ≡ true =
       ap (λ ns. are_unlike bytes_eq (ns ++ actor_names actors)) (append-nil (object_names bares) ∙ sym same) ∙ t.fits.names in
       actors_read v stock o.l bares text [] actors (object_later o.l o.is) o.reads fits (subst (λ ns. list_all is_name ns ≡ true) same named) (subst (λ ns. are_unlike bytes_eq ns ≡ true) same apart) fit right differ (omega (arith, parts.several))
 
   counts : counted actors bares ≡ objects
-  counts = count_steps actors [] bares ∙ bare_counted actors 0 objects ∙ sym (count_steps actors [] objects) ∙ t.counts
+  counts = count_steps actors [] bares ∙ bare_counted actors 0 objects ∙ sym (count_steps actors [] objects) ∙ t.fits.counts
 
   -- the line steps
-  steps_back : Reads (steps_in script) (stages.Acting (decl v actors_back.l stock objects actors) nothing_played)
+  steps_back : Reads (steps_in script) (sections.Acting (decl v actors_back.l stock objects actors) nothing_played)
   steps_back =
       let l = actors_back.l in
       let d = decl v l stock bares actors in
       let declared = declared_in script in
       let words = codes "steps" ∷ [] in
-      let reads : Reads declared (stages.Declaring d) = subst (λ ns. Reads (actors_written ns (objects_written v (stock_in script) objects) actors) (stages.Declaring d)) (bare_names objects) actors_back.reads in
+      let reads : Reads declared (sections.Declaring d) = subst (λ ns. Reads (actors_written ns (objects_written v (stock_in script) objects) actors) (sections.Declaring d)) (bare_names objects) actors_back.reads in
       let served = all_weaker is_sound_object is_served objects sound_served parts.sound in
       let here : (not (is_first l) && ltb 0 (length objects) && list_all is_served objects) ≡ true = rw (actors_back.is, lt-ltb 0 (length objects) parts.some, served) refl in
       let whole : is_whole (with_all_counted d) ≡ true = subst (λ (xs : List ObjectLine). (not (is_first l) && ltb 0 (length xs) && list_all is_served xs) ≡ true) (sym counts) here in
-      next_reads declared (stages.Declaring d) (stages.Acting (decl v l stock objects actors) nothing_played) words reads refl t.steps (record { some = omega arith; good = refl; shown = refl })
-      (steps_branch declared.next d words refl whole ∙ ap (λ (xs : List ObjectLine). ok_stage (stages.Acting (decl v l stock xs actors) nothing_played)) counts)
+      next_reads declared (sections.Declaring d) (sections.Acting (decl v l stock objects actors) nothing_played) words reads refl t.steps (record { some = omega arith; good = refl; shown = refl })
+      (steps_branch declared.next d words refl whole ∙ ap (λ (xs : List ObjectLine). ok_section (sections.Acting (decl v l stock xs actors) nothing_played)) counts)
 
-  whole_back : Rest 1 stages.Header (script_text script) ≡ Ok script
+  whole_back : Rest 1 sections.Header (script_text script) ≡ Ok script
   whole_back =
       let d = decl v actors_back.l stock objects actors in
-      let done = lines_read d (steps_in script) [] 67108864 [] script.lines t.fits.modes steps_back t.lines named (names_fit objects actors t.fits.actors) apart (unlike_back bytes_eq (object_names objects) (actor_names actors) t.fits.names) parts.lines t.bytes t.leaves t.fits.lines t.stays t.fits.bytes in
+      let done = lines_read d (steps_in script) [] 67108864 [] script.lines t.fits.modes steps_back t.lines named (names_fit objects actors t.fits.actors) apart (unlike_back bytes_eq (object_names objects) (actor_names actors) t.fits.names) parts.lines t.bytes t.fits.leaves t.fits.lines t.fits.stays t.fits.bytes in
       let text = lines_written (object_names objects) (actor_names actors) (steps_in script) script.lines in
-      ap (λ bytes. Rest 1 stages.Header bytes) (sym (append-nil text.bytes)) ∙ done.reads [] ∙ lines_last line_step last_step text.next (stages.Acting d (played script.lines done.room done.left)) []
+      ap (λ bytes. Rest 1 sections.Header bytes) (sym (append-nil text.bytes)) ∙ done.reads [] ∙ lines_last line_step last_step text.next (sections.Acting d (played script.lines done.room done.left)) []
 
 -- a script that keeps the limits is read from its text
 pub text_back : ReadsItsText

@@ -1,5 +1,5 @@
 -- A line that is read has the words of what was read from it: lines of actors.
-use Rattle.std.proofs.Common.{◌≡◌, ℕ, ◌*◌, ◌<◌, ◌≤◌, Bool, true, false, ◌&&◌, ◌⊎◌, ⊎_elim, inl, inr, eqb, leb, cond, List, [], ◌∷◌, length, get_or, map, drop, Option, Some, None, Result, Ok, Err, refl, sym, ap, subst, ◌∙◌, arith}
+use Rattle.std.proofs.Common.{◌≡◌, ℕ, ◌*◌, ◌<◌, ◌≤◌, Bool, true, false, ◌&&◌, eqb, leb, cond, List, [], ◌∷◌, length, get_or, map, Option, Some, None, Result, Ok, refl, sym, ap, subst, ◌∙◌, arith}
 use Rattle.std.specs.Fmt.{decimal}
 use Rattle.std.specs.Prelude.{codes}
 use Rattle.std.specs.List.{position}
@@ -14,7 +14,7 @@ use Rattle.up_model.specs.declared.entry.Call.TheVariants as calls
 use Rattle.up_words.specs.Refusals.{code_in}
 use Rattle.up_words.specs.Numbers.{number, number_between}
 use Rattle.up_words.specs.Runs.{runs_in, bytes_between, bytes_text, too_many}
-use Rattle.up_words.specs.Steps.{◌>>=◌, or_why}
+use Rattle.up_words.specs.ReadSteps.{or_why}
 use Rattle.up_words.specs.Words.{word_at, word_is, verb_is}
 use Rattle.up_words.specs.declared.fault.Why.{Why}
 use Rattle.up_words.specs.declared.fault.Why.TheVariants as why
@@ -22,7 +22,7 @@ use Rattle.up_words.proofs.Decimals.{then_ok, ok_is, some_is, only as only_decim
 use Rattle.up_words.proofs.ByteLists.{only}
 use Rattle.up_fields.proofs.Values.{none_some, bind_ok, found_ok, same_word, number_takes, code_takes}
 use Rattle.up_fields.proofs.Rows.{two, three, four, five}
-use Rattle.up_script.specs.Actions.{action_in, alone_of, fields_of, range_in, read_fields, write_fields, supply_fields, range_fields, query_fields, resize_fields, turn_fields, evict_fields, borrow_fields}
+use Rattle.up_script.specs.Actions.{action_in, alone_of, fields_of, range_in}
 use Rattle.up_script.specs.Declarations.{object_in}
 use Rattle.up_script.specs.Text.{action_words, object_names}
 use Rattle.up_script.specs.Verbs.{fail_verb, user_verb, pager_verb, other_verb, lone_verb, or_on, or_lone, verb_of, call_over, role_of}

@@ -5,7 +5,7 @@ use Rattle.up_num.specs.Span.{Span}
 use Rattle.up_model.specs.declared.entry.Brought.TheVariants.{Nothing}
 use Rattle.up_model.specs.declared.entry.Call.{Call}
 use Rattle.up_model.specs.declared.entry.Call.TheVariants as calls
-use Rattle.up_words.specs.Steps.{◌>>=◌, check, or_why}
+use Rattle.up_words.specs.ReadSteps.{◌>>=◌, check, or_why}
 use Rattle.up_words.specs.Words.{word_at}
 use Rattle.up_words.specs.Numbers.{number_between}
 use Rattle.up_words.specs.Runs.{bytes_between}

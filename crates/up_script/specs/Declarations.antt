@@ -2,7 +2,7 @@
 use Rattle.std.specs.Prelude.{ℕ, ◌/◌, ◌&&◌, ◌++◌, ◌||◌, Bool, true, false, cond, not, zero, suc, List, [], ◌∷◌, Option, Some, None, Result, Ok, Err, codes, drop, is_some, length, nat_le, nat_lt}
 use Rattle.std.specs.List.{list_all}
 use Rattle.std.specs.Str.{bytes_eq}
-use Rattle.up_words.specs.Steps.{◌>>=◌, check, or_why, each}
+use Rattle.up_words.specs.ReadSteps.{◌>>=◌, check, or_why, each}
 use Rattle.up_words.specs.Words.{word_at, word_is, verb_is}
 use Rattle.up_words.specs.Numbers.{number_between}
 use Rattle.up_words.specs.Names.{is_name}
@@ -12,7 +12,7 @@ use Rattle.up_script.specs.Versions.{has_modes, object_size, is_mode_word}
 use Rattle.up_script.specs.Objects.{object_named, actor_named, image_named, has_image, is_among, counted, is_served}
 use Rattle.up_script.specs.declared.declarations.Declared.{Declared}
 use Rattle.up_script.specs.declared.declarations.Last.{Last}
-use Rattle.up_script.specs.declared.declarations.Stock.{Stock}
+use Rattle.up_script.specs.declared.declarations.FrameCounts.{FrameCounts}
 use Rattle.up_script.specs.declared.declarations.Last.TheVariants as last
 use Rattle.up_script.specs.declared.script.ActorLine.{ActorLine}
 use Rattle.up_script.specs.declared.script.Kind.{Kind}
@@ -49,12 +49,12 @@ nothing_declared version = record {
 }
 
 -- the stock with so many loaned frames
-abbrev pub with_loan : Stock → ℕ → ℕ → Stock
+abbrev pub with_loan : FrameCounts → ℕ → ℕ → FrameCounts
 with_loan stock line loan =
     record { frames = stock.frames; frames_line = stock.frames_line; loan = loan; loan_line = line; warn = stock.warn; critical = stock.critical }
 
 -- the stock with these marks
-abbrev pub with_levels : Stock → ℕ → ℕ → Stock
+abbrev pub with_levels : FrameCounts → ℕ → ℕ → FrameCounts
 with_levels stock warn critical =
     record { frames = stock.frames; frames_line = stock.frames_line; loan = stock.loan; loan_line = stock.loan_line; warn = warn; critical = critical }
 

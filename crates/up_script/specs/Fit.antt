@@ -1,21 +1,25 @@
--- What every script keeps that a text spells, beside what Sound says: its version and modes, its frames and marks, different names and images, whom an actor acts on, whose
--- each line is, and the bytes of all lines.
+-- What every script keeps that a text spells, beside what Sound says: its version and modes, its frames and marks, different
+-- names and images, whom an actor acts on, whose each line is, the bytes of all lines, the counts of each object's users and
+-- pagers, the role of each leave, and that nothing stands behind one.
 use Rattle.std.specs.Prelude.{◌≡◌, ℕ, ◌≤◌, ◌==◌, ◌&&◌, ◌||◌, ◌++◌, Bool, true, false, cond, not, List, [], ◌∷◌, Option, Some, None, Ok, is_some, length, map, nat_le, nat_lt, slice_get}
 use Rattle.std.specs.List.{list_all, list_any, sum_by}
 use Rattle.std.specs.Str.{bytes_eq}
 use Rattle.up_model.specs.declared.entry.Call.{Call}
 use Rattle.up_model.specs.declared.entry.Call.TheVariants as calls
 use Rattle.up_words.specs.Names.{is_name}
-use Rattle.up_script.specs.Actions.{object_of, is_bound, kind_of, bytes_of, suits_mode}
-use Rattle.up_script.specs.Declarations.{may_serve}
-use Rattle.up_script.specs.Objects.{is_user, is_pager, is_worker, is_evictor, has_image, is_numbered}
+use Rattle.up_script.specs.Actions.{object_of, is_bound, kind_of, bytes_of, suits_mode, has_left, with_leave}
+use Rattle.up_script.specs.Declarations.{may_serve, first_numbers}
+use Rattle.up_script.specs.Objects.{is_user, is_pager, is_worker, is_evictor, has_image, is_numbered, counted}
 use Rattle.up_script.specs.Reading.{script_of}
 use Rattle.up_script.specs.Sound.{is_within}
+use Rattle.up_script.specs.Verbs.{role_of}
 use Rattle.up_script.specs.Versions.{is_version, has_modes}
+use Rattle.up_script.specs.declared.played.LeftObject.{LeftObject}
 use Rattle.up_script.specs.declared.script.Action.{Action}
 use Rattle.up_script.specs.declared.script.Action.TheVariants as actions
 use Rattle.up_script.specs.declared.script.ActorLine.{ActorLine}
 use Rattle.up_script.specs.declared.script.Kind.{Kind}
+use Rattle.up_script.specs.declared.script.Kind.TheVariants.{User, Pager, Worker, Evictor}
 use Rattle.up_script.specs.declared.script.Line.{Line}
 use Rattle.up_script.specs.declared.script.ObjectLine.{ObjectLine}
 use Rattle.up_script.specs.declared.script.Script.{Script}
@@ -101,6 +105,28 @@ is_fit_line objects actors line =
     may_do (kind_of (slice_get actors line.actor)) line.action
     && (is_bound (slice_get actors line.actor) (object_of line.action) && suits_object objects line.action)
 
+-- a leave is in the role in which an actor of this kind leaves
+abbrev pub LeavesAs : Kind → Action → Type 0
+LeavesAs kind (actions.Act object (calls.Leave role)) = role ≡ role_of kind
+LeavesAs kind _ = Unit {0}
+
+-- each leave is in its actor's role
+unfoldable pub AllLeave : List ActorLine → List Line → Type 0
+AllLeave actors [] = Unit {0}
+AllLeave actors (line ∷ lines) = LeavesAs (kind_of (slice_get actors line.actor)) line.action × AllLeave actors lines
+
+-- no line of an actor on an object stands behind its leave of it
+unfoldable pub all_stay : List LeftObject → List Line → Bool
+all_stay left [] = true
+all_stay left (line ∷ lines) = not (has_left left line.actor (object_of line.action)) && all_stay (with_leave left line.actor line.action) lines
+
+-- a user and a raw pager act on one object or more, a worker on one, an evictor on all
+abbrev pub binds_right : Kind → ℕ → List ℕ → Bool
+binds_right User objects bound = nat_lt 0 (length bound)
+binds_right Pager objects bound = nat_lt 0 (length bound)
+binds_right Worker objects bound = length bound == 1
+binds_right Evictor objects bound = bytes_eq bound (first_numbers objects)
+
 -- what holds of every script
 pub record Fits (script : Script) : Type 0 where
   pub version : is_version script.version ≡ true
@@ -112,6 +138,10 @@ pub record Fits (script : Script) : Type 0 where
   pub actors : list_all (is_fit_actor script.objects) script.actors ≡ true
   pub lines : list_all (is_fit_line script.objects script.actors) script.lines ≡ true
   pub bytes : sum_by (λ line. bytes_of line.action) script.lines ≤ 67108864
+  pub counts : counted script.actors script.objects ≡ script.objects
+  pub bound : list_all (λ actor. binds_right actor.kind (length script.objects) actor.objects) script.actors ≡ true
+  pub leaves : AllLeave script.actors script.lines
+  pub stays : all_stay [] script.lines ≡ true
 
 -- a script that a text spells keeps all that
 abbrev pub SpellsFitting : Type 0

@@ -5,15 +5,15 @@ use Rattle.up_words.specs.Words.{split, word_at}
 use Rattle.up_words.specs.declared.fault.Fault.{Fault}
 use Rattle.up_words.specs.declared.fault.Why.TheVariants.{Long}
 use Rattle.up_script.specs.Actions.{action_in}
-use Rattle.up_script.specs.Fit.{are_unlike, may_do}
+use Rattle.up_script.specs.Fit.{are_unlike, may_do, LeavesAs}
 use Rattle.up_script.specs.Reading.{script_of, line_step, last_step}
 use Rattle.up_script.specs.Sound.{is_sound_action}
 use Rattle.up_script.specs.Text.{action_words, object_names, script_text}
 use Rattle.up_script.specs.Verbs.{verb_of, says}
-use Rattle.up_script.specs.Whole.{has_bytes, is_spoken_in, LeavesAs, HasText}
+use Rattle.up_script.specs.Whole.{has_bytes, is_spoken_in, HasText}
 use Rattle.up_script.specs.declared.declarations.Declared.{Declared}
-use Rattle.up_script.specs.declared.reading.Stage.{Stage}
-use Rattle.up_script.specs.declared.reading.Stage.TheVariants.{Header}
+use Rattle.up_script.specs.declared.reading.Section.{Section}
+use Rattle.up_script.specs.declared.reading.Section.TheVariants.{Header}
 use Rattle.up_script.specs.declared.script.Action.{Action}
 use Rattle.up_script.specs.declared.script.Kind.{Kind}
 use Rattle.up_script.specs.declared.script.Script.{Script}
@@ -41,10 +41,10 @@ abbrev pub ReadsOnlyItsAction : Type 0
 ReadsOnlyItsAction = (declared : Declared) (kind : Kind) (verb : Verb) (words : List (List ℕ)) (action : Action) → verb_of declared.version words ≡ Some verb → action_in declared kind verb words ≡ Ok action
     → words ≡ word_at words 0 ∷ action_words (object_names declared.objects) action
 
--- these lines, of which the first has number n, lead from one stage to another without a fault
-abbrev pub Leads : ℕ → Stage → List (List ℕ) → Stage → Type 0
+-- these lines, of which the first has number n, lead from one section to another without a fault
+abbrev pub Leads : ℕ → Section → List (List ℕ) → Section → Type 0
 Leads n from [] to = from ≡ to
-Leads n from (line ∷ lines) to = (next : Stage) × (line_step n from line ≡ Ok next) × Leads (n + 1) next lines to
+Leads n from (line ∷ lines) to = (next : Section) × (line_step n from line ≡ Ok next) × Leads (n + 1) next lines to
 
 -- The fault is the first one: all lines before its line are without fault, and in its line, as they leave it, its reason is found. What
 -- stands behind the last newline is judged by itself.
@@ -52,11 +52,11 @@ pub record FirstFault (lines : List (List ℕ)) (fault : Fault) : Type 0 where
   pub before : List (List ℕ)
   pub line : List ℕ
   pub behind : List (List ℕ)
-  pub stage : Stage
+  pub section : Section
   pub whole : lines ≡ before ++ line ∷ behind
   pub place : fault.line ≡ 1 + length before
-  pub leads : Leads 1 Header before stage
-  pub found : ((behind ≡ []) × (last_step fault.line stage line ≡ Err fault.why)) ⊎ ((0 < length behind) × (line_step fault.line stage line ≡ Err fault.why))
+  pub leads : Leads 1 Header before section
+  pub found : ((behind ≡ []) × (last_step fault.line section line ≡ Err fault.why)) ⊎ ((0 < length behind) × (line_step fault.line section line ≡ Err fault.why))
 
 -- the fault of a text within its length is the first one of its lines
 abbrev pub NamesFirst : Type 0

@@ -5,7 +5,7 @@ pub mod Laws
 pub mod Objects
 pub mod Reading
 pub mod Sound
-pub mod Stages
+pub mod Sections
 pub mod Text
 pub mod Verbs
 pub mod Versions

@@ -1,6 +1,6 @@
 -- The text of a script: its declarations and lines in the grammar's words, each in the line that the script says. No comment stands in it, and no
 -- empty line but those before a line whose number is higher than the next one.
-use Rattle.std.specs.Prelude.{ℕ, ◌+◌, ◌-◌, ◌/◌, ◌==◌, ◌&&◌, ◌++◌, Bool, true, false, cond, not, List, [], ◌∷◌, Option, Some, None, codes, decimal, map, nat_lt, replicate}
+use Rattle.std.specs.Prelude.{ℕ, ◌+◌, ◌-◌, ◌/◌, ◌==◌, ◌&&◌, ◌++◌, Bool, cond, List, [], ◌∷◌, Option, Some, None, codes, decimal, map, nat_lt, replicate}
 use Rattle.std.specs.List.{fold}
 use Rattle.up_num.specs.Span.{Span}
 use Rattle.up_model.specs.declared.entry.Call.{Call}
@@ -20,19 +20,19 @@ use Rattle.up_script.specs.declared.script.ObjectLine.{ObjectLine}
 use Rattle.up_script.specs.declared.script.Script.{Script}
 
 -- the lines of a text so far: their bytes, and the number of the next line
-pub record Written : Type 0 where
+pub record TextSoFar : Type 0 where
   pub next : ℕ
   pub bytes : List ℕ
 
 -- One line more, of these words: the line of that number, with empty lines before it. Where the text is past that, it is the next line.
-abbrev pub and_line : Written → ℕ → List (List ℕ) → Written
+abbrev pub and_line : TextSoFar → ℕ → List (List ℕ) → TextSoFar
 and_line text number words = record {
   next = text.next + (number - text.next) + 1;
   bytes = text.bytes ++ (replicate (number - text.next) 10 ++ line_text words);
 }
 
 -- the first line, of this version
-abbrev pub header_written : ℕ → Written
+abbrev pub header_written : ℕ → TextSoFar
 header_written version = record { next = 2; bytes = first_line version ++ 10 ∷ [] }
 
 -- frames N
@@ -48,7 +48,7 @@ abbrev pub levels_words : ℕ → ℕ → List (List ℕ)
 levels_words warn critical = codes "levels" ∷ decimal warn ∷ decimal critical ∷ []
 
 -- the line of the loaned frames, where there are some
-abbrev pub and_loan : Written → ℕ → ℕ → Written
+abbrev pub and_loan : TextSoFar → ℕ → ℕ → TextSoFar
 and_loan text number loan = cond (nat_lt 0 loan) (and_line text number (loan_words loan)) text
 
 -- the marks are a quarter and an eighth of the frames
@@ -56,11 +56,11 @@ abbrev pub are_usual : ℕ → ℕ → ℕ → Bool
 are_usual frames warn critical = (warn == frames / 4) && (critical == frames / 8)
 
 -- the line of the marks, where they aren't the usual ones: the next line
-abbrev pub and_levels : Written → ℕ → ℕ → ℕ → Written
+abbrev pub and_levels : TextSoFar → ℕ → ℕ → ℕ → TextSoFar
 and_levels text frames warn critical = cond (are_usual frames warn critical) text (and_line text 0 (levels_words warn critical))
 
 -- the lines before the objects, by the version, the frames and their line, the loaned frames and their line, and the marks
-abbrev pub stock_written : ℕ → ℕ → ℕ → ℕ → ℕ → ℕ → ℕ → Written
+abbrev pub stock_written : ℕ → ℕ → ℕ → ℕ → ℕ → ℕ → ℕ → TextSoFar
 stock_written version frames frames_line loan loan_line warn critical =
     and_levels (and_loan (and_line (header_written version) frames_line (frames_words frames)) loan_line loan) frames warn critical
 
@@ -84,10 +84,10 @@ object_words version object =
     codes "object" ∷ object.name ∷ decimal object.birth.pages ∷ limit_text object.birth.limit ∷ flag_text (codes "trap") (codes "free") object.birth.trap
     ∷ image_text object.image ∷ mode_words version object.birth.numbered
 
-abbrev pub and_object : ℕ → Written → ObjectLine → Written
+abbrev pub and_object : ℕ → TextSoFar → ObjectLine → TextSoFar
 and_object version text object = and_line text object.number (object_words version object)
 
-abbrev pub objects_written : ℕ → Written → List ObjectLine → Written
+abbrev pub objects_written : ℕ → TextSoFar → List ObjectLine → TextSoFar
 objects_written version text objects = fold (and_object version) text objects
 
 -- the first word of an actor's declaration
@@ -106,10 +106,10 @@ bound_words names _ objects = map (λ object. word_at names object) objects
 abbrev pub actor_words : List (List ℕ) → ActorLine → List (List ℕ)
 actor_words names actor = kind_text actor.kind ∷ actor.name ∷ bound_words names actor.kind actor.objects
 
-abbrev pub and_actor : List (List ℕ) → Written → ActorLine → Written
+abbrev pub and_actor : List (List ℕ) → TextSoFar → ActorLine → TextSoFar
 and_actor names text actor = and_line text actor.number (actor_words names actor)
 
-abbrev pub actors_written : List (List ℕ) → Written → List ActorLine → Written
+abbrev pub actors_written : List (List ℕ) → TextSoFar → List ActorLine → TextSoFar
 actors_written names text actors = fold (and_actor names) text actors
 
 -- VERB OBJ F C, and what stands behind them
@@ -161,10 +161,10 @@ action_words names actions.Lend = codes "lend" ∷ []
 abbrev pub line_words : List (List ℕ) → List (List ℕ) → Line → List (List ℕ)
 line_words objects actors line = word_at actors line.actor ∷ action_words objects line.action
 
-abbrev pub and_action : List (List ℕ) → List (List ℕ) → Written → Line → Written
+abbrev pub and_action : List (List ℕ) → List (List ℕ) → TextSoFar → Line → TextSoFar
 and_action objects actors text line = and_line text line.number (line_words objects actors line)
 
-abbrev pub lines_written : List (List ℕ) → List (List ℕ) → Written → List Line → Written
+abbrev pub lines_written : List (List ℕ) → List (List ℕ) → TextSoFar → List Line → TextSoFar
 lines_written objects actors text lines = fold (and_action objects actors) text lines
 
 abbrev pub object_names : List ObjectLine → List (List ℕ)
@@ -174,11 +174,11 @@ abbrev pub actor_names : List ActorLine → List (List ℕ)
 actor_names actors = map (λ actor. actor.name) actors
 
 -- the declarations behind the lines of the frames
-abbrev pub declared_written : ℕ → Written → List ObjectLine → List ActorLine → Written
+abbrev pub declared_written : ℕ → TextSoFar → List ObjectLine → List ActorLine → TextSoFar
 declared_written version stock objects actors = actors_written (object_names objects) (objects_written version stock objects) actors
 
 -- the line steps, the next one behind the declarations, and the lines of the actors behind it
-abbrev pub acted_written : Written → List ObjectLine → List ActorLine → List Line → Written
+abbrev pub acted_written : TextSoFar → List ObjectLine → List ActorLine → List Line → TextSoFar
 acted_written declared objects actors lines =
     lines_written (object_names objects) (actor_names actors) (and_line declared 0 (codes "steps" ∷ [])) lines
 

@@ -1,5 +1,5 @@
 ghost use Rattle.std.specs.Prelude.{◌≡◌, ◌<◌, ◌≤◌, true, length, Ok, IfOk};
-ghost use Rattle.up_words.specs.Steps.{Gives, or_why};
+ghost use Rattle.up_words.specs.ReadSteps.{Gives, or_why};
 ghost use Rattle.up_words.specs.declared.fault.Why.TheVariants.{Word};
 ghost use Rattle.up_script.specs.Verbs.{verb_of};
 ghost use Rattle.up_script.specs.Actions.{actor_in, suits_mode, has_what_it_needs, may_act, bytes_of, with_line, act};

@@ -1,9 +1,8 @@
-ghost use Rattle.std.specs.Prelude.{◌≡◌, ◌<◌, ◌&&◌, [], true, not, drop, length, nat_lt, IfOk};
+ghost use Rattle.std.specs.Prelude.{◌≡◌, ◌<◌, ◌&&◌, [], true, drop, length, IfOk};
 ghost use Rattle.up_words.specs.Names.{is_name};
-ghost use Rattle.up_script.specs.Objects.{is_served};
 ghost use Rattle.up_script.specs.Sound.{is_sound_limit, is_sound_image, are_sound_objects};
 ghost use Rattle.std.specs.List.{list_all};
-ghost use Rattle.up_words.specs.Steps.{Gives, each};
+ghost use Rattle.up_words.specs.ReadSteps.{Gives, each};
 ghost use Rattle.up_script.specs.Declarations.{is_first, may_loan, may_level, may_object, nothing_declared, frames_line, loan_line, levels_line, new_name, limit_in, image_in, object_line, object_in, bind_step, may_serve, with_actor, bound_line, first_numbers, evictor_line, binds, actor_line, is_trap_word, says_numbered, says_object, declaration_line, is_whole, with_all_counted};
 
 use crate::actors::{Actors, is_in};
@@ -31,7 +30,7 @@ pub enum Last {
 
 /// How many frames there are, the lines that say so, and the marks.
 #[derive(Clone, Copy, PartialEq, Eq, Debug)]
-pub struct Stock {
+pub struct FrameCounts {
     pub frames: u32,
     pub frames_line: u32,
     pub loan: u32,
@@ -45,7 +44,7 @@ pub struct Stock {
 pub struct Declared {
     pub version: u32,
     pub last: Last,
-    pub stock: Stock,
+    pub stock: FrameCounts,
     pub objects: Objects,
     pub actors: Actors,
 }
@@ -84,7 +83,7 @@ impl Declared {
         Declared {
             version,
             last: Last::Nothing,
-            stock: Stock {
+            stock: FrameCounts {
                 frames: 0,
                 frames_line: 0,
                 loan: 0,
@@ -144,7 +143,7 @@ fn read_frames(line: u32, declared: Declared, words: &Words<'_>) -> Result<Decla
     let frames = read_between(1, 16384, words.at(1))? as u32;
     Ok(Declared {
         last: Last::Frames,
-        stock: Stock {
+        stock: FrameCounts {
             frames,
             frames_line: line,
             loan: 0,
@@ -162,7 +161,7 @@ fn read_loan(line: u32, declared: Declared, words: &Words<'_>) -> Result<Declare
     let loan = read_between(1, 4096, words.at(1))? as u32;
     Ok(Declared {
         last: Last::Loan,
-        stock: Stock {
+        stock: FrameCounts {
             loan,
             loan_line: line,
             ..declared.stock
@@ -178,7 +177,7 @@ fn read_levels(declared: Declared, words: &Words<'_>) -> Result<Declared, Stop>
     let critical = read_between(0, u64::from(warn), words.at(2))? as u32;
     Ok(Declared {
         last: Last::Levels,
-        stock: Stock {
+        stock: FrameCounts {
             warn,
             critical,
             ..declared.stock

@@ -1,5 +1,5 @@
-ghost use Rattle.std.specs.Prelude.{◌≡◌, ◌<◌, ◌≤◌, true, length, IfOk};
-ghost use Rattle.up_words.specs.Steps.{Gives};
+ghost use Rattle.std.specs.Prelude.{◌≡◌, ◌<◌, true, length, IfOk};
+ghost use Rattle.up_words.specs.ReadSteps.{Gives};
 ghost use Rattle.up_script.specs.Actions.{range_in, read_fields, write_fields, supply_fields, range_fields, end_fields, query_fields, resize_fields, turn_fields, evict_fields, borrow_fields, fields_of, alone_of, action_in};
 ghost use Rattle.up_script.specs.Sound.{is_sound_range, is_sound_action};
 

@@ -1,4 +1,5 @@
 //! The script that a program does: its types, and the reader of its text.
+//! Used by itself in `up_text_tests`.
 #![tactic(auto)]
 
 mod actions;

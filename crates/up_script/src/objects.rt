@@ -1,6 +1,6 @@
-ghost use Rattle.std.specs.Prelude.{◌≡◌, ◌≤◌, ◌<◌, [], ◌∷◌, ◌++◌, true, false, length, IsTrue, ◌↔◌, IfSome, IfOk, IfErr};
-ghost use Rattle.std.specs.List.{fold, list_all, list_any};
-ghost use Rattle.up_script.specs.Objects.{object_named, is_image, image_named, has_image, is_numbered, is_among, with_counts, count_step, counted, is_served};
+ghost use Rattle.std.specs.Prelude.{◌≡◌, ◌≤◌, ◌<◌, [], ◌∷◌, ◌++◌, true, false, length, IfSome, IfOk, IfErr};
+ghost use Rattle.std.specs.List.{list_all};
+ghost use Rattle.up_script.specs.Objects.{object_named, is_image, image_named, has_image, is_numbered, with_counts, count_step, counted, is_served};
 ghost use Rattle.up_script.specs.Sound.{is_fair_object, is_few};
 ghost use Rattle.up_words.specs.declared.fault.Stop.TheVariants.{Memory as MemoryStop};
 

@@ -3,7 +3,7 @@ ghost use Rattle.std.specs.List.{list_any};
 ghost use Rattle.up_script.specs.Actions.{object_of, has_left, with_leave, bytes_of};
 ghost use Rattle.up_script.specs.Reading.{nothing_played};
 
-use crate::script::{Action, Line, Lines};
+use crate::script::{Action, Lines};
 use std::alloc::Global;
 use up_model::Call;
 use up_num::{Items, Memory};

@@ -1,10 +1,10 @@
 ghost use Rattle.std.specs.Prelude.{◌≡◌, ◌≤◌, true, IfOk, OnOk};
-ghost use Rattle.up_words.specs.Steps.{Gives, GivesText, lines_from};
+ghost use Rattle.up_words.specs.ReadSteps.{Gives, GivesText, lines_from};
 ghost use Rattle.up_words.specs.Words.{split};
-ghost use Rattle.up_script.specs.Reading.{declaring, stage_step, is_skipped, content, line_step, script_in, ended, last_step, script_of};
+ghost use Rattle.up_script.specs.Reading.{declaring, section_step, is_skipped, content, line_step, ended, last_step, script_of};
 ghost use Rattle.up_script.specs.Fit.{Fits};
 ghost use Rattle.up_script.specs.Sound.{is_sound};
-ghost use Rattle.up_script.specs.Stages.{is_sound_stage};
+ghost use Rattle.up_script.specs.Sections.{is_sound_section};
 
 use crate::actions::read_action;
 use crate::declarations::{Declared, read_declaration};
@@ -23,7 +23,7 @@ const LINES: u32 = 65_536;
 
 /// What the next line has to be, and what the lines before it said.
 #[derive(Debug, Drop)]
-pub enum Stage {
+pub enum Section {
     Header,
     Declaring(Declared),
     Acting(Declared, Played),
@@ -34,31 +34,36 @@ fn read_declaring(
     number: u32,
     declared: Declared,
     words: &Words<'_>,
-) -> Result<Stage, Stop>
+) -> Result<Section, Stop>
     ensures value { Gives (λ next. next) result (declaring number declared words.now) }
-    ensures sound { IfOk result (λ next. is_sound_stage next ≡ true) }
+    ensures sound { IfOk result (λ next. is_sound_section next ≡ true) }
 {
     if !words.has(0, b"steps", 1) {
         let declared = read_declaration(alloc, number, declared, words)?;
-        return Ok(Stage::Declaring(declared));
+        return Ok(Section::Declaring(declared));
     }
     let declared = declared.counted(alloc)?;
     if !declared.is_whole() {
         return Err(Stop::Found(Why::Missing));
     }
-    Ok(Stage::Acting(declared, Played::new(alloc)))
+    Ok(Section::Acting(declared, Played::new(alloc)))
 }
 
-fn read_by_stage(alloc: Global, number: u32, stage: Stage, words: &Words<'_>) -> Result<Stage, Stop>
-    ensures value { Gives (λ next. next) result (stage_step number stage words.now) }
-    ensures sound { is_sound_stage stage ≡ true → IfOk result (λ next. is_sound_stage next ≡ true) }
+fn read_by_section(
+    alloc: Global,
+    number: u32,
+    section: Section,
+    words: &Words<'_>,
+) -> Result<Section, Stop>
+    ensures value { Gives (λ next. next) result (section_step number section words.now) }
+    ensures sound { is_sound_section section ≡ true → IfOk result (λ next. is_sound_section next ≡ true) }
 {
-    match stage {
-        Stage::Header => Err(Stop::Found(Why::Header)),
-        Stage::Declaring(declared) => read_declaring(alloc, number, declared, words),
-        Stage::Acting(declared, played) => {
+    match section {
+        Section::Header => Err(Stop::Found(Why::Header)),
+        Section::Declaring(declared) => read_declaring(alloc, number, declared, words),
+        Section::Acting(declared, played) => {
             let played = read_action(alloc, &declared, number, played, words)?;
-            Ok(Stage::Acting(declared, played))
+            Ok(Section::Acting(declared, played))
         }
     }
 }
@@ -72,26 +77,26 @@ fn is_passed_over(line: &[u8]) -> bool
     }
 }
 
-fn read_content(alloc: Global, number: u32, stage: Stage, line: &[u8]) -> Result<Stage, Stop>
-    ensures value { Gives (λ next. next) result (content number stage line.now) }
-    ensures sound { is_sound_stage stage ≡ true → IfOk result (λ next. is_sound_stage next ≡ true) }
+fn read_content(alloc: Global, number: u32, section: Section, line: &[u8]) -> Result<Section, Stop>
+    ensures value { Gives (λ next. next) result (content number section line.now) }
+    ensures sound { is_sound_section section ≡ true → IfOk result (λ next. is_sound_section next ≡ true) }
 {
-    if let Stage::Header = stage {
+    if let Section::Header = section {
         return match read_version(line) {
             None => Err(Stop::Found(Why::Header)),
-            Some(version) => Ok(Stage::Declaring(Declared::new(alloc, version))),
+            Some(version) => Ok(Section::Declaring(Declared::new(alloc, version))),
         };
     }
     if is_passed_over(line) {
-        return Ok(stage);
+        return Ok(section);
     }
     let words = read_words(alloc, line)?;
-    read_by_stage(alloc, number, stage, &words)
+    read_by_section(alloc, number, section, &words)
 }
 
-fn read_line(alloc: Global, number: u32, stage: Stage, line: &[u8]) -> Result<Stage, Stop>
-    ensures value { Gives (λ next. next) result (line_step number stage line.now) }
-    ensures sound { is_sound_stage stage ≡ true → IfOk result (λ next. is_sound_stage next ≡ true) }
+fn read_line(alloc: Global, number: u32, section: Section, line: &[u8]) -> Result<Section, Stop>
+    ensures value { Gives (λ next. next) result (line_step number section line.now) }
+    ensures sound { is_sound_section section ≡ true → IfOk result (λ next. is_sound_section next ≡ true) }
     ensures few { OnOk result (number ≤ LINES) }
 {
     if LINE < line.len() {
@@ -100,17 +105,17 @@ fn read_line(alloc: Global, number: u32, stage: Stage, line: &[u8]) -> Result<St
     if LINES < number {
         return Err(Stop::Found(Why::Limit));
     }
-    read_content(alloc, number, stage, line)
+    read_content(alloc, number, section, line)
 }
 
-fn finish(stage: Stage) -> Result<Script, Stop>
-    ensures value { Gives (λ script. script) result (ended stage) }
-    ensures sound { is_sound_stage stage ≡ true → IfOk result (λ script. is_sound script ≡ true) }
+fn finish(section: Section) -> Result<Script, Stop>
+    ensures value { Gives (λ script. script) result (ended section) }
+    ensures sound { is_sound_section section ≡ true → IfOk result (λ script. is_sound script ≡ true) }
 {
-    match stage {
-        Stage::Header => Err(Stop::Found(Why::Header)),
-        Stage::Declaring(_) => Err(Stop::Found(Why::Missing)),
-        Stage::Acting(declared, played) => {
+    match section {
+        Section::Header => Err(Stop::Found(Why::Header)),
+        Section::Declaring(_) => Err(Stop::Found(Why::Missing)),
+        Section::Acting(declared, played) => {
             let Declared {
                 version,
                 last: _,
@@ -135,12 +140,12 @@ fn finish(stage: Stage) -> Result<Script, Stop>
 }
 
 /// What stands behind the last newline.
-fn end(number: u32, stage: Stage, rest: &[u8]) -> Result<Script, Stop>
-    ensures value { Gives (λ script. script) result (last_step number stage rest.now) }
-    ensures sound { is_sound_stage stage ≡ true → IfOk result (λ script. is_sound script ≡ true) }
+fn end(number: u32, section: Section, rest: &[u8]) -> Result<Script, Stop>
+    ensures value { Gives (λ script. script) result (last_step number section rest.now) }
+    ensures sound { is_sound_section section ≡ true → IfOk result (λ script. is_sound script ≡ true) }
 {
     if rest.is_empty() {
-        return finish(stage);
+        return finish(section);
     }
     if LINE < rest.len() {
         return Err(Stop::Found(Why::Long));
@@ -152,23 +157,23 @@ fn end(number: u32, stage: Stage, rest: &[u8]) -> Result<Script, Stop>
 }
 
 fn read_lines(alloc: Global, text: &[u8]) -> Result<Script, ReadFault>
-    ensures value { GivesText (λ script. script) result (lines_from line_step last_step 1 Stage.Header (split 10 text.now)) }
+    ensures value { GivesText (λ script. script) result (lines_from line_step last_step 1 Section.Header (split 10 text.now)) }
     ensures sound { IfOk result (λ script. is_sound script ≡ true) }
 {
-    let mut stage = Stage::Header;
+    let mut section = Section::Header;
     let mut number: u32 = 1;
     let mut rest = text;
     loop {
         let (line, after) = front(rest);
         match after {
             None => {
-                return match end(number, stage, line) {
+                return match end(number, section, line) {
                     Ok(script) => Ok(script),
                     Err(stop) => Err(stop.at(number)),
                 };
             }
             Some(after) => {
-                stage = match read_line(alloc, number, stage, line) {
+                section = match read_line(alloc, number, section, line) {
                     Ok(next) => next,
                     Err(stop) => return Err(stop.at(number)),
                 };

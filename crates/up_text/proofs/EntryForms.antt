@@ -12,7 +12,7 @@ use Rattle.up_model.specs.declared.entry.Birth.{Birth}
 use Rattle.up_model.specs.declared.entry.Entry.{Entry}
 use Rattle.up_model.specs.declared.entry.Call.{Call}
 use Rattle.up_model.specs.declared.entry.Reply.{Reply}
-use Rattle.up_words.specs.Steps.{◌>>=◌}
+use Rattle.up_words.specs.ReadSteps.{◌>>=◌}
 use Rattle.up_words.specs.Words.{word_at, word_is, is_word, is_word_byte}
 use Rattle.up_words.specs.Numbers.{is_digit, number_between}
 use Rattle.up_words.specs.Names.{is_letter, is_name_byte, is_name}

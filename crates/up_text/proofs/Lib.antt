@@ -1,9 +1,9 @@
 pub mod Lines
 pub mod EntryForms
-pub mod Again
-pub mod Takes
+pub mod ReadBack
+pub mod OnlyTheirText
 pub mod OneBytes
 pub mod OneDeed
 pub mod OneLine
 pub mod Prefixes
-pub mod Sound
+pub mod ReadLimits

@@ -26,7 +26,7 @@ use Rattle.up_words.proofs.Decimals.{ok_is}
 use Rattle.up_fields.proofs.Values.{first_digit}
 use Rattle.up_fields.proofs.Sentences.{line_free, split_line}
 use Rattle.up_text.proofs.EntryForms.{entry_good, birth_good}
-use Rattle.up_text.proofs.Again.{journal_parts, end_good, header_free, header_reads}
+use Rattle.up_text.proofs.ReadBack.{journal_parts, end_good, header_free, header_reads}
 use Rattle.up_text.proofs.OneLine.{words_one, entry_one, birth_one}
 
 -- the lines of entries, each as its bytes

@@ -4,7 +4,7 @@ use Rattle.std.specs.List.{list_any}
 use Rattle.std.specs.Str.{bytes_eq}
 use Rattle.up_model.specs.declared.entry.Birth.{Birth}
 use Rattle.up_model.specs.declared.entry.Entry.{Entry}
-use Rattle.up_words.specs.Steps.{◌>>=◌, check, or_why, at_line, lines_from}
+use Rattle.up_words.specs.ReadSteps.{◌>>=◌, check, or_why, at_line, lines_from}
 use Rattle.up_words.specs.Words.{split, words_in, word_at, word_is, verb_is}
 use Rattle.up_words.specs.Numbers.{number_between}
 use Rattle.up_words.specs.Names.{is_name}
@@ -22,9 +22,9 @@ use Rattle.up_text.specs.Versions.{Versioned, has_numbers}
 use Rattle.up_text.specs.declared.entries.Spelled.{Spelled}
 use Rattle.up_text.specs.declared.entries.Forms.{Forms}
 use Rattle.up_text.specs.declared.journals.Named.{Named}
-use Rattle.up_text.specs.declared.stage.Part.{Part}
-use Rattle.up_text.specs.declared.stage.Stage.{Stage}
-use Rattle.up_text.specs.declared.stage.Stage.TheVariants as stages
+use Rattle.up_text.specs.declared.section.Part.{Part}
+use Rattle.up_text.specs.declared.section.Section.{Section}
+use Rattle.up_text.specs.declared.section.Section.TheVariants as sections
 
 -- the words of an entry's call and what follows, behind its place, its caller and its epoch
 abbrev pub call_part : List (List ℕ) → List (List ℕ)
@@ -65,11 +65,11 @@ abbrev pub entry_of : Spelled → Entry
 entry_of entry = record { who = entry.who; epoch = entry.epoch; call = call_of entry.call; reply = reply_of entry.reply }
 
 -- one entry more, where there is room for its bytes
-abbrev pub entry_line : Bool → Part → Named → List (List ℕ) → Result Stage Why
+abbrev pub entry_line : Bool → Part → Named → List (List ℕ) → Result Section Why
 entry_line numbers part current words = do
   entry ← entry_in numbers current.birth.numbered (length current.entries) words
   room ← check why.Limit (nat_le (part.bytes + spelled_bytes entry) most_bytes)
-  Ok (stages.Within (record part { bytes = part.bytes + spelled_bytes entry }) (record current { entries = current.entries ++ entry_of entry ∷ [] }))
+  Ok (sections.Within (record part { bytes = part.bytes + spelled_bytes entry }) (record current { entries = current.entries ++ entry_of entry ∷ [] }))
 
 -- one of these journals has the name
 abbrev pub has_name : List Named → List ℕ → Bool
@@ -100,7 +100,7 @@ birth_in words trap image numbered = do
   Ok (record { pages = pages; limit = limit; trap = trap; users = users; pagers = pagers; image = image; numbered = numbered })
 
 -- the line that begins a journal: its name is a new one
-abbrev pub journal_line : Bool → Part → List (List ℕ) → Result Stage Why
+abbrev pub journal_line : Bool → Part → List (List ℕ) → Result Section Why
 journal_line numbers part words = do
   trap ← or_why why.Word (flag_in (codes "trap") (codes "free") (word_at words 4))
   image ← or_why why.Word (flag_in (codes "image") (codes "-") (word_at words 7))
@@ -108,24 +108,24 @@ journal_line numbers part words = do
   named ← check why.Name (is_name (word_at words 1) && not (has_name part.journals.list (word_at words 1)))
   birth ← birth_in words trap image numbered
   few ← check why.Limit (nat_lt (length part.journals.list) most_journals)
-  Ok (stages.Within part (record { name = word_at words 1; birth = birth; entries = [] }))
+  Ok (sections.Within part (record { name = word_at words 1; birth = birth; entries = [] }))
 
 -- the line that ends a journal: the number of its entries
-abbrev pub end_line : Part → Named → List (List ℕ) → Result Stage Why
+abbrev pub end_line : Part → Named → List (List ℕ) → Result Section Why
 end_line part current words = do
   shaped ← check why.Word (length words == 2)
   count ← number_between 0 all_tickets (word_at words 1)
   order ← check why.Order (count == length current.entries)
-  Ok (stages.Between (record part { journals = record part.journals { list = part.journals.list ++ current ∷ [] } }))
+  Ok (sections.Between (record part { journals = record part.journals { list = part.journals.list ++ current ∷ [] } }))
 
 -- a line by its words, where a journal may begin
-abbrev pub between_line : Bool → Part → List (List ℕ) → Result Stage Why
+abbrev pub between_line : Bool → Part → List (List ℕ) → Result Section Why
 between_line numbers part words =
-    cond (verb_is words 0 (codes "done") 1) (Ok (stages.Ended part.journals))
+    cond (verb_is words 0 (codes "done") 1) (Ok (sections.Ended part.journals))
     (cond (verb_is words 0 (codes "journal") (birth_size numbers)) (journal_line numbers part words) (Err why.Word))
 
 -- a line by its words, in a journal
-abbrev pub within_line : Bool → Part → Named → List (List ℕ) → Result Stage Why
+abbrev pub within_line : Bool → Part → Named → List (List ℕ) → Result Section Why
 within_line numbers part current words = cond (word_is words 0 (codes "end")) (end_line part current words) (entry_line numbers part current words)
 
 -- before the first journal
@@ -137,32 +137,32 @@ abbrev pub version_in : List ℕ → Result ℕ Why
 version_in line = cond (bytes_eq line (header false)) (Ok 1) (cond (bytes_eq line (header true)) (Ok 2) (Err why.Header))
 
 -- a line, after those before it
-abbrev pub line_step : Stage → List ℕ → Result Stage Why
-line_step stages.Header line = do
+abbrev pub line_step : Section → List ℕ → Result Section Why
+line_step sections.Header line = do
   version ← version_in line
-  Ok (stages.Between (nothing_read version))
-line_step (stages.Between part) line = words_in line >>= λ words. between_line (has_numbers part.journals.version) part words
-line_step (stages.Within part current) line = words_in line >>= λ words. within_line (has_numbers part.journals.version) part current words
-line_step (stages.Ended journals) line = Err why.Word
+  Ok (sections.Between (nothing_read version))
+line_step (sections.Between part) line = words_in line >>= λ words. between_line (has_numbers part.journals.version) part words
+line_step (sections.Within part current) line = words_in line >>= λ words. within_line (has_numbers part.journals.version) part current words
+line_step (sections.Ended journals) line = Err why.Word
 
 -- the journals, where the line done stood last; a text without a line has no header
-abbrev pub ended : Stage → Result (Versioned) Why
-ended stages.Header = Err why.Header
-ended (stages.Ended journals) = Ok journals
+abbrev pub ended : Section → Result (Versioned) Why
+ended sections.Header = Err why.Header
+ended (sections.Ended journals) = Ok journals
 ended _ = Err why.Cut
 
 -- what stands behind the last newline: nothing
-abbrev pub last_step : Stage → List ℕ → Result (Versioned) Why
-last_step stage rest = do
+abbrev pub last_step : Section → List ℕ → Result (Versioned) Why
+last_step section rest = do
   whole ← check why.Cut (length rest == 0)
-  ended stage
+  ended section
 
 -- all lines of a text from this number on
-abbrev pub lines_of : ℕ → Stage → List (List ℕ) → Result (Versioned) Fault
-lines_of number stage lines = lines_from (λ line. line_step) (λ line. last_step) number stage lines
+abbrev pub lines_of : ℕ → Section → List (List ℕ) → Result (Versioned) Fault
+lines_of number section lines = lines_from (λ line. line_step) (λ line. last_step) number section lines
 
 -- the journals that a text spells, or its first fault
 abbrev pub journals_of : List ℕ → Result (Versioned) Fault
 journals_of bytes = do
   short ← at_line 0 (check why.Long (nat_le (length bytes) longest_text))
-  lines_of 1 stages.Header (split 10 bytes)
+  lines_of 1 sections.Header (split 10 bytes)

@@ -1,10 +1,10 @@
 ghost use Rattle.std.specs.Prelude.{◌≡◌};
-ghost use Rattle.up_words.specs.Steps.{Gives, or_why};
+ghost use Rattle.up_words.specs.ReadSteps.{Gives, or_why};
 ghost use Rattle.up_words.specs.declared.fault.Why.TheVariants.{Word};
 ghost use Rattle.up_text.specs.Reading.{birth_in, has_name, journal_line, limit_in, mode_in};
 
 use crate::journals::Named;
-use crate::stage::{Part, Stage};
+use crate::section::{Part, Section};
 use std::alloc::Global;
 use up_fields::{SIZES, read_count, read_flag};
 use up_model::Birth;
@@ -74,7 +74,7 @@ pub fn read_journal_line(
     numbers: bool,
     part: Part,
     words: &Words<'_>,
-) -> Result<Stage, Stop>
+) -> Result<Section, Stop>
     ensures { Gives (λ next. next) result (journal_line numbers part words.now) }
 {
     let trap = read_flag(b"trap", b"free", words.at(4))?;
@@ -89,7 +89,7 @@ pub fn read_journal_line(
         return Err(Stop::Found(Why::Limit));
     }
     let name = Items::from_slice(alloc, name)?;
-    Ok(Stage::Within(
+    Ok(Section::Within(
         part,
         Named {
             name,

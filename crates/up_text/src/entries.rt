@@ -1,12 +1,12 @@
 ghost use Rattle.std.specs.Prelude.{◌≡◌, ◌+◌, ◌<◌, IfOk};
-ghost use Rattle.up_words.specs.Steps.{Gives, or_why};
+ghost use Rattle.up_words.specs.ReadSteps.{Gives, or_why};
 ghost use Rattle.up_words.specs.declared.fault.Why.TheVariants.{Word};
 ghost use Rattle.up_calls.specs.Calls.{call_kind};
 ghost use Rattle.up_replies.specs.Replies.{reply_kind};
 ghost use Rattle.up_text.specs.Reading.{entry_in, entry_line, entry_of, forms_in, spelled_bytes};
 
 use crate::journals::Named;
-use crate::stage::{Part, Stage};
+use crate::section::{Part, Section};
 use std::alloc::Global;
 use up_calls::{CallKind, SpelledCall, fill_call, find_call, read_call};
 use up_fields::{COUNTS, TICKETS, Tail, read_count, total};
@@ -133,7 +133,7 @@ pub fn read_entry_line(
     part: Part,
     current: Named,
     words: &Words<'_>,
-) -> Result<Stage, Stop>
+) -> Result<Section, Stop>
     ensures { Gives (λ next. next) result (entry_line numbers part current words.now) }
 {
     let next = current.entries.len() as u64;
@@ -154,7 +154,7 @@ pub fn read_entry_line(
         journals,
         bytes: bytes as u32,
     };
-    Ok(Stage::Within(
+    Ok(Section::Within(
         part,
         Named {
             name,

@@ -1,4 +1,5 @@
 //! The journal text both ways: one text for each list of journals, read back as the same journals.
+//! Used by itself in `up_text_tests`.
 #![tactic(auto)]
 
 mod births;
@@ -6,7 +7,7 @@ mod entries;
 mod journals;
 pub mod laws;
 mod reading;
-mod stage;
+mod section;
 mod versioned;
 mod writing;
 

@@ -1,5 +1,5 @@
 ghost use Rattle.std.specs.Prelude.{◌≡◌, ◌≤◌, IfOk, Ok, length, true};
-ghost use Rattle.up_words.specs.Steps.{Gives, GivesText, at_line};
+ghost use Rattle.up_words.specs.ReadSteps.{Gives, GivesText, at_line};
 ghost use Rattle.up_words.specs.Words.{split};
 ghost use Rattle.up_text.specs.Limits.{longest_text};
 ghost use Rattle.up_text.specs.Text.{text};
@@ -10,7 +10,7 @@ ghost use Rattle.up_text.specs.Reading.{between_line, birth_size, end_line, ende
 use crate::births::read_journal_line;
 use crate::entries::read_entry_line;
 use crate::journals::Named;
-use crate::stage::{Part, Stage};
+use crate::section::{Part, Section};
 use crate::versioned::Journals;
 use std::alloc::Global;
 use up_fields::TICKETS;
@@ -19,7 +19,7 @@ use up_words::{ReadFault, Stop, Why, Words, front, read_between, read_words};
 /// The greatest length of a text.
 const TEXT: usize = 67_108_864;
 
-fn read_end_line(part: Part, current: Named, words: &Words<'_>) -> Result<Stage, Stop>
+fn read_end_line(part: Part, current: Named, words: &Words<'_>) -> Result<Section, Stop>
     ensures { Gives (λ next. next) result (end_line part current words.now) }
 {
     if words.len() != 2 {
@@ -34,7 +34,7 @@ fn read_end_line(part: Part, current: Named, words: &Words<'_>) -> Result<Stage,
         bytes,
     } = part;
     journals.push(current)?;
-    Ok(Stage::Between(Part { journals, bytes }))
+    Ok(Section::Between(Part { journals, bytes }))
 }
 
 fn birth_words(numbers: bool) -> usize
@@ -48,12 +48,12 @@ fn read_between_line(
     numbers: bool,
     part: Part,
     words: &Words<'_>,
-) -> Result<Stage, Stop>
+) -> Result<Section, Stop>
     ensures { Gives (λ next. next) result (between_line numbers part words.now) }
 {
     if words.has(0, b"done", 1) {
         let Part { journals, bytes: _ } = part;
-        Ok(Stage::Ended(journals))
+        Ok(Section::Ended(journals))
     } else if words.has(0, b"journal", birth_words(numbers)) {
         read_journal_line(alloc, numbers, part, words)
     } else {
@@ -67,7 +67,7 @@ fn read_within_line(
     part: Part,
     current: Named,
     words: &Words<'_>,
-) -> Result<Stage, Stop>
+) -> Result<Section, Stop>
     ensures { Gives (λ next. next) result (within_line numbers part current words.now) }
 {
     if words.reads(0, b"end") {
@@ -91,75 +91,80 @@ fn read_version(line: &[u8]) -> Result<u32, Stop>
     }
 }
 
-fn read_header(alloc: Global, line: &[u8]) -> Result<Stage, Stop>
-    ensures { Gives (λ next. next) result (line_step Stage.Header line.now) }
+fn read_header(alloc: Global, line: &[u8]) -> Result<Section, Stop>
+    ensures { Gives (λ next. next) result (line_step Section.Header line.now) }
 {
     let version = read_version(line)?;
-    Ok(Stage::Between(Part {
+    Ok(Section::Between(Part {
         journals: Journals::new(alloc, version),
         bytes: 0,
     }))
 }
 
-fn read_line_between(alloc: Global, part: Part, line: &[u8]) -> Result<Stage, Stop>
-    ensures { Gives (λ next. next) result (line_step (Stage.Between part) line.now) }
+fn read_line_between(alloc: Global, part: Part, line: &[u8]) -> Result<Section, Stop>
+    ensures { Gives (λ next. next) result (line_step (Section.Between part) line.now) }
 {
     let words = read_words(alloc, line)?;
     let numbers = part.journals.has_numbers();
     read_between_line(alloc, numbers, part, &words)
 }
 
-fn read_line_within(alloc: Global, part: Part, current: Named, line: &[u8]) -> Result<Stage, Stop>
-    ensures { Gives (λ next. next) result (line_step (Stage.Within part current) line.now) }
+fn read_line_within(alloc: Global, part: Part, current: Named, line: &[u8]) -> Result<Section, Stop>
+    ensures { Gives (λ next. next) result (line_step (Section.Within part current) line.now) }
 {
     let words = read_words(alloc, line)?;
     let numbers = part.journals.has_numbers();
     read_within_line(alloc, numbers, part, current, &words)
 }
 
-fn read_line(alloc: Global, stage: Stage, line: &[u8]) -> Result<Stage, Stop>
-    ensures { Gives (λ next. next) result (line_step stage line.now) }
+fn read_line(alloc: Global, section: Section, line: &[u8]) -> Result<Section, Stop>
+    ensures { Gives (λ next. next) result (line_step section line.now) }
 {
-    match stage {
-        Stage::Header => read_header(alloc, line),
-        Stage::Between(part) => read_line_between(alloc, part, line),
-        Stage::Within(part, current) => read_line_within(alloc, part, current, line),
-        Stage::Ended(_) => Err(Stop::Found(Why::Word)),
+    match section {
+        Section::Header => read_header(alloc, line),
+        Section::Between(part) => read_line_between(alloc, part, line),
+        Section::Within(part, current) => read_line_within(alloc, part, current, line),
+        Section::Ended(_) => Err(Stop::Found(Why::Word)),
     }
 }
 
-fn finish(stage: Stage) -> Result<Journals, Stop>
-    ensures { Gives (λ journals. journals) result (ended stage) }
+fn finish(section: Section) -> Result<Journals, Stop>
+    ensures { Gives (λ journals. journals) result (ended section) }
 {
-    match stage {
-        Stage::Header => Err(Stop::Found(Why::Header)),
-        Stage::Ended(journals) => Ok(journals),
+    match section {
+        Section::Header => Err(Stop::Found(Why::Header)),
+        Section::Ended(journals) => Ok(journals),
         _ => Err(Stop::Found(Why::Cut)),
     }
 }
 
-fn end(stage: Stage, rest: &[u8]) -> Result<Journals, Stop>
-    ensures { Gives (λ journals. journals) result (last_step stage rest.now) }
+fn end(section: Section, rest: &[u8]) -> Result<Journals, Stop>
+    ensures { Gives (λ journals. journals) result (last_step section rest.now) }
 {
     if !rest.is_empty() {
         return Err(Stop::Found(Why::Cut));
     }
-    finish(stage)
+    finish(section)
 }
 
-fn end_at(number: u32, stage: Stage, rest: &[u8]) -> Result<Journals, ReadFault>
-    ensures { GivesText (λ journals. journals) result (at_line number (last_step stage rest.now)) }
+fn end_at(number: u32, section: Section, rest: &[u8]) -> Result<Journals, ReadFault>
+    ensures { GivesText (λ journals. journals) result (at_line number (last_step section rest.now)) }
 {
-    match end(stage, rest) {
+    match end(section, rest) {
         Ok(journals) => Ok(journals),
         Err(stop) => Err(stop.at(number)),
     }
 }
 
-fn read_line_at(alloc: Global, number: u32, stage: Stage, line: &[u8]) -> Result<Stage, ReadFault>
-    ensures { GivesText (λ next. next) result (at_line number (line_step stage line.now)) }
+fn read_line_at(
+    alloc: Global,
+    number: u32,
+    section: Section,
+    line: &[u8],
+) -> Result<Section, ReadFault>
+    ensures { GivesText (λ next. next) result (at_line number (line_step section line.now)) }
 {
-    match read_line(alloc, stage, line) {
+    match read_line(alloc, section, line) {
         Ok(next) => Ok(next),
         Err(stop) => Err(stop.at(number)),
     }
@@ -167,17 +172,17 @@ fn read_line_at(alloc: Global, number: u32, stage: Stage, line: &[u8]) -> Result
 
 fn read_lines(alloc: Global, text: &[u8]) -> Result<Journals, ReadFault>
     requires { length text.now ≤ longest_text }
-    ensures { GivesText (λ journals. journals) result (lines_of 1 Stage.Header (split 10 text.now)) }
+    ensures { GivesText (λ journals. journals) result (lines_of 1 Section.Header (split 10 text.now)) }
 {
-    let mut stage = Stage::Header;
+    let mut section = Section::Header;
     let mut number: u32 = 1;
     let mut rest = text;
     loop {
         let (line, after) = front(rest);
         match after {
-            None => return end_at(number, stage, line),
+            None => return end_at(number, section, line),
             Some(after) => {
-                stage = read_line_at(alloc, number, stage, line)?;
+                section = read_line_at(alloc, number, section, line)?;
                 number += 1;
                 rest = after;
             }

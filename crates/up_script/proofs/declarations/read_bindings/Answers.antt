@@ -1,7 +1,7 @@
 use Rattle.std.proofs.Common.{[], arith, subst, ℕ, List}
 use Rattle.std.proofs.lemmas.Result.{err_from_is_err_and}
-use Rattle.up_words.specs.Steps.{Fails}
-use Rattle.up_words.proofs.Steps.{each_fails, each_more, each_done}
+use Rattle.up_words.specs.ReadSteps.{Fails}
+use Rattle.up_words.proofs.ReadSteps.{each_fails, each_more, each_done}
 use Rattle.up_script.specs.Declarations.{bind_step}
 use Rattle.up_script.proofs.declarations.read_bindings.Goals as goal
 

@@ -1,5 +1,5 @@
 use Rattle.std.proofs.Common.{◌≡◌, [], drop}
-use Rattle.up_words.specs.Steps.{each}
+use Rattle.up_words.specs.ReadSteps.{each}
 use Rattle.up_script.specs.Declarations.{bind_step}
 use Rattle.up_script.proofs.declarations.read_bindings.Given as goal
 

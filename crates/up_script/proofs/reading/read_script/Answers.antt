@@ -1,4 +1,4 @@
-use Rattle.up_script.proofs.Fitting.{fits_given}
+use Rattle.up_script.proofs.ScriptLimits.{fits_given}
 use Rattle.up_script.proofs.reading.read_script.Goals as goal
 
 pub returns-clause-fits : goal.returns-clause-fits

@@ -1,5 +1,5 @@
 use Rattle.std.proofs.Common.{arith}
-use Rattle.up_text.proofs.Sound.{found, sound}
+use Rattle.up_text.proofs.ReadLimits.{found, sound}
 use Rattle.up_text.proofs.reading.read_journals.Goals as goal
 
 pub returns-clause-found : goal.returns-clause-found

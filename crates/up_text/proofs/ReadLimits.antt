@@ -10,7 +10,7 @@ use Rattle.std.proofs.lemmas.List.Sums.{sum_by_push}
 use Rattle.up_model.specs.declared.entry.Birth.{Birth}
 use Rattle.up_model.specs.declared.entry.Call.{Call}
 use Rattle.up_model.specs.declared.entry.Reply.{Reply}
-use Rattle.up_words.specs.Steps.{◌>>=◌, check, at_line, lines_from, GivesText}
+use Rattle.up_words.specs.ReadSteps.{◌>>=◌, check, at_line, lines_from, GivesText}
 use Rattle.up_words.specs.Words.{split, words_in, word_at, word_is, verb_is}
 use Rattle.up_words.specs.Numbers.{number_between}
 use Rattle.up_words.specs.Names.{is_name}
@@ -37,17 +37,17 @@ use Rattle.up_text.specs.Versions.{Versioned, is_version, has_numbers}
 use Rattle.up_text.specs.declared.entries.Forms.{Forms}
 use Rattle.up_text.specs.declared.entries.Spelled.{Spelled}
 use Rattle.up_text.specs.declared.journals.Named.{Named}
-use Rattle.up_text.specs.declared.stage.Part.{Part}
-use Rattle.up_text.specs.declared.stage.Stage.{Stage}
-use Rattle.up_text.specs.declared.stage.Stage.TheVariants as stages
+use Rattle.up_text.specs.declared.section.Part.{Part}
+use Rattle.up_text.specs.declared.section.Section.{Section}
+use Rattle.up_text.specs.declared.section.Section.TheVariants as sections
 use Rattle.up_fields.proofs.Values.{bind_ok, found_ok, either}
 use Rattle.up_fields.proofs.Bounds.{number_within}
 use Rattle.up_calls.proofs.CallBounds.{call_within}
 use Rattle.up_calls.proofs.CallForms.{found_may_be}
 use Rattle.up_replies.proofs.ReplyBounds.{reply_within}
 use Rattle.up_replies.proofs.ReplyForms.{found_may_be as reply_may_be}
-use Rattle.up_text.proofs.Again.{back}
-use Rattle.up_text.proofs.Takes.{bad_word, version_takes, ok_line, bind_line, only}
+use Rattle.up_text.proofs.ReadBack.{back}
+use Rattle.up_text.proofs.OnlyTheirText.{bad_word, version_takes, ok_line, bind_line, only}
 
 -- an entry that was read has a text, and so many bytes
 record EntryWithin (numbers numbered : Bool) (spelled : Spelled) : Type 0 where
@@ -152,14 +152,14 @@ record Whole (journals : Versioned) : Type 0 where
   pub done : Finished journals
   pub room : sum_by journal_bytes journals.list ≤ most_bytes
 
--- a stage keeps the limits
-abbrev Keeps : Stage → Type 0
-Keeps stages.Header = Unit {0}
-Keeps (stages.Between part) = Closed part
-Keeps (stages.Within part current) = Open part current
-Keeps (stages.Ended journals) = Whole journals
+-- a section keeps the limits
+abbrev Keeps : Section → Type 0
+Keeps sections.Header = Unit {0}
+Keeps (sections.Between part) = Closed part
+Keeps (sections.Within part current) = Open part current
+Keeps (sections.Ended journals) = Whole journals
 
-entry_step : (part : Part) (current : Named) (words : List (List ℕ)) (t : Stage) → Open part current → entry_line (has_numbers part.journals.version) part current words ≡ Ok t → Keeps t
+entry_step : (part : Part) (current : Named) (words : List (List ℕ)) (t : Section) → Open part current → entry_line (has_numbers part.journals.version) part current words ≡ Ok t → Keeps t
 entry_step part current words t keeps e =
     let numbers = has_numbers part.journals.version in
     let each = entry_allowed numbers current.birth.numbered in
@@ -181,7 +181,7 @@ entry_step part current words t keeps e =
       bytes = omega (arith, keeps.bytes, sum_by_push entry_bytes current.entries read, is.bytes);
       room = few;
     } in
-    subst Keeps (ok_is (stages.Within part_then current_then) t room.1) opened
+    subst Keeps (ok_is (sections.Within part_then current_then) t room.1) opened
 
 -- a journal of another name is a new one behind the others
 new_more : (before journals : List Named) (journal : Named) → are_new before journals ≡ true → has_name (before ++ journals) journal.name ≡ false → are_new before (journals ++ journal ∷ []) ≡ true
@@ -192,7 +192,7 @@ new_more before (first ∷ journals) journal all new =
     both (not (has_name before first.name)) (are_new (before ++ first ∷ []) (journals ++ journal ∷ [])) p.0
     (new_more (before ++ first ∷ []) journals journal p.1 (ap (λ js. has_name js journal.name) (append_assoc before (first ∷ []) journals) ∙ new))
 
-end_step : (part : Part) (current : Named) (words : List (List ℕ)) (t : Stage) → Open part current → end_line part current words ≡ Ok t → Keeps t
+end_step : (part : Part) (current : Named) (words : List (List ℕ)) (t : Section) → Open part current → end_line part current words ≡ Ok t → Keeps t
 end_step part current words t keeps e =
     let shaped = then_ok why.Word (eqb (length words) 2) _ t e in
     let count = bind_ok (number_between 0 all_tickets (word_at words 1)) _ t shaped.1 in
@@ -216,9 +216,9 @@ end_step part current words t keeps e =
       bytes = keeps.bytes ∙ sym (sum_by_push journal_bytes part.journals.list current);
       room = keeps.room;
     } in
-    subst Keeps (ok_is (stages.Between part_then) t order.1) closed
+    subst Keeps (ok_is (sections.Between part_then) t order.1) closed
 
-journal_step : (part : Part) (words : List (List ℕ)) (t : Stage) → Closed part → journal_line (has_numbers part.journals.version) part words ≡ Ok t → Keeps t
+journal_step : (part : Part) (words : List (List ℕ)) (t : Section) → Closed part → journal_line (has_numbers part.journals.version) part words ≡ Ok t → Keeps t
 journal_step part words t keeps e =
     let numbers = has_numbers part.journals.version in
     let trap = found_ok why.Word (flag_in (codes "trap") (codes "free") (word_at words 4)) _ t e in
@@ -239,21 +239,21 @@ journal_step part words t keeps e =
       bytes = omega (arith, keeps.bytes);
       room = keeps.room;
     } in
-    subst Keeps (ok_is (stages.Within part current) t few.1) opened
+    subst Keeps (ok_is (sections.Within part current) t few.1) opened
 
-done_step : (part : Part) (t : Stage) → Closed part → ◌≡◌ {A = Result Stage Why} (Ok (stages.Ended part.journals)) (Ok t) → Keeps t
+done_step : (part : Part) (t : Section) → Closed part → ◌≡◌ {A = Result Section Why} (Ok (sections.Ended part.journals)) (Ok t) → Keeps t
 done_step part t keeps e =
     let whole : Whole part.journals = record { done = keeps.done; room = omega (arith, keeps.bytes, keeps.room) } in
-    subst Keeps (ok_is (stages.Ended part.journals) t e) whole
+    subst Keeps (ok_is (sections.Ended part.journals) t e) whole
 
-between_step : (part : Part) (words : List (List ℕ)) (t : Stage) → Closed part → between_line (has_numbers part.journals.version) part words ≡ Ok t → Keeps t
+between_step : (part : Part) (words : List (List ℕ)) (t : Section) → Closed part → between_line (has_numbers part.journals.version) part words ≡ Ok t → Keeps t
 between_step part words t keeps e =
-    ⊎_elim (λ p. done_step part t keeps p.1) others (either (verb_is words 0 (codes "done") 1) (Ok (stages.Ended part.journals)) (cond (verb_is words 0 (codes "journal") (birth_size (has_numbers part.journals.version))) (journal_line (has_numbers part.journals.version) part words) (Err why.Word)) (Ok t) e)
+    ⊎_elim (λ p. done_step part t keeps p.1) others (either (verb_is words 0 (codes "done") 1) (Ok (sections.Ended part.journals)) (cond (verb_is words 0 (codes "journal") (birth_size (has_numbers part.journals.version))) (journal_line (has_numbers part.journals.version) part words) (Err why.Word)) (Ok t) e)
   where
     others : (verb_is words 0 (codes "done") 1 ≡ false) × (cond (verb_is words 0 (codes "journal") (birth_size (has_numbers part.journals.version))) (journal_line (has_numbers part.journals.version) part words) (Err why.Word) ≡ Ok t) → Keeps t
     others p = ⊎_elim (λ q. journal_step part words t keeps q.1) (λ q. absurd (bad_word t q.1)) (either (verb_is words 0 (codes "journal") (birth_size (has_numbers part.journals.version))) (journal_line (has_numbers part.journals.version) part words) (Err why.Word) (Ok t) p.1)
 
-within_step : (part : Part) (current : Named) (words : List (List ℕ)) (t : Stage) → Open part current → within_line (has_numbers part.journals.version) part current words ≡ Ok t → Keeps t
+within_step : (part : Part) (current : Named) (words : List (List ℕ)) (t : Section) → Open part current → within_line (has_numbers part.journals.version) part current words ≡ Ok t → Keeps t
 within_step part current words t keeps e =
     ⊎_elim (λ p. end_step part current words t keeps p.1) (λ p. entry_step part current words t keeps p.1) (either (word_is words 0 (codes "end")) (end_line part current words) (entry_line (has_numbers part.journals.version) part current words) (Ok t) e)
 
@@ -262,25 +262,25 @@ unfolding are_new
 nothing_keeps version e = record { done = record { version = e; all = refl; new = refl; few = omega arith }; bytes = refl; room = omega arith }
 
 -- each line keeps the limits
-step_keeps : (s t : Stage) (line : List ℕ) → Keeps s → line_step s line ≡ Ok t → Keeps t
-step_keeps stages.Header t line keeps e =
+step_keeps : (s t : Section) (line : List ℕ) → Keeps s → line_step s line ≡ Ok t → Keeps t
+step_keeps sections.Header t line keeps e =
     let version = bind_ok (version_in line) _ t e in
-    subst Keeps (ok_is (stages.Between (nothing_read version.0)) t version.2) (nothing_keeps version.0 (version_takes line version.0 version.1).1)
-step_keeps (stages.Between part) t line keeps e =
+    subst Keeps (ok_is (sections.Between (nothing_read version.0)) t version.2) (nothing_keeps version.0 (version_takes line version.0 version.1).1)
+step_keeps (sections.Between part) t line keeps e =
     let words = bind_ok (words_in line) _ t e in
     between_step part words.0 t keeps words.2
-step_keeps (stages.Within part current) t line keeps e =
+step_keeps (sections.Within part current) t line keeps e =
     let words = bind_ok (words_in line) _ t e in
     within_step part current words.0 t keeps words.2
-step_keeps (stages.Ended journals) t line keeps e = absurd (bad_word t e)
+step_keeps (sections.Ended journals) t line keeps e = absurd (bad_word t e)
 
-ended_keeps : (s : Stage) (journals : Versioned) → Keeps s → ended s ≡ Ok journals → Whole journals
-ended_keeps stages.Header journals keeps e = absurd cc
-ended_keeps (stages.Between part) journals keeps e = absurd cc
-ended_keeps (stages.Within part current) journals keeps e = absurd cc
-ended_keeps (stages.Ended found) journals keeps e = subst Whole (ok_is found journals e) keeps
+ended_keeps : (s : Section) (journals : Versioned) → Keeps s → ended s ≡ Ok journals → Whole journals
+ended_keeps sections.Header journals keeps e = absurd cc
+ended_keeps (sections.Between part) journals keeps e = absurd cc
+ended_keeps (sections.Within part current) journals keeps e = absurd cc
+ended_keeps (sections.Ended found) journals keeps e = subst Whole (ok_is found journals e) keeps
 
-lines_keep : (n : ℕ) (s : Stage) (pieces : List (List ℕ)) (journals : Versioned) → Keeps s → lines_of n s pieces ≡ Ok journals → Whole journals
+lines_keep : (n : ℕ) (s : Section) (pieces : List (List ℕ)) (journals : Versioned) → Keeps s → lines_of n s pieces ≡ Ok journals → Whole journals
 unfolding lines_from
 lines_keep n s [] journals keeps e = absurd cc
 lines_keep n s (rest ∷ []) journals keeps e =
@@ -298,7 +298,7 @@ held reason false answer e = absurd cc
 pub within : ReadsWithinLimits
 within bytes journals e =
     let short = bind_line (at_line 0 (check why.Long (leb (length bytes) longest_text))) _ journals e in
-    let whole = lines_keep 1 stages.Header (split 10 bytes) journals tt short.2 in
+    let whole = lines_keep 1 sections.Header (split 10 bytes) journals tt short.2 in
     let long : leb (length bytes) longest_text ≡ true = held why.Long (leb (length bytes) longest_text) short.0 (ok_line 0 (check why.Long (leb (length bytes) longest_text)) short.0 short.1) in
     let length_of : leb (length (text journals)) longest_text ≡ true = subst (λ b. leb (length b) longest_text ≡ true) (only bytes journals e) long in
     let few = le-leb (length journals.list) most_journals whole.done.few in
@@ -308,11 +308,11 @@ within bytes journals e =
     both (are_allowed journals) (leb (length (text journals)) longest_text && sizes) (both (have_texts journals) (are_new [] journals.list) texts whole.done.new)
     (both (leb (length (text journals)) longest_text) sizes length_of (both (leb (length journals.list) most_journals) (leb (sum_by journal_bytes journals.list) most_bytes) few room))
 
-short_is : (bytes : List ℕ) → length bytes ≤ longest_text → journals_of bytes ≡ lines_of 1 stages.Header (split 10 bytes)
+short_is : (bytes : List ℕ) → length bytes ≤ longest_text → journals_of bytes ≡ lines_of 1 sections.Header (split 10 bytes)
 short_is bytes short = rw (le-leb (length bytes) longest_text short) refl
 
 -- what a reader of a text gives that isn't too long is written as that text, and within the limits
-pub sound : (bytes : List ℕ) (given : Result (Versioned) ReadFault) → length bytes ≤ longest_text → GivesText (λ journals. journals) given (lines_of 1 stages.Header (split 10 bytes))
+pub sound : (bytes : List ℕ) (given : Result (Versioned) ReadFault) → length bytes ≤ longest_text → GivesText (λ journals. journals) given (lines_of 1 sections.Header (split 10 bytes))
     → IfOk given (λ journals. (bytes ≡ text journals) × (are_within journals ≡ true))
 sound bytes (Ok journals) short e =
     let read : journals_of bytes ≡ Ok journals = short_is bytes short ∙ e in
@@ -320,7 +320,7 @@ sound bytes (Ok journals) short e =
 sound bytes (Err fault) short e = tt
 
 -- it gives the journals whose text it is
-pub found : (bytes : List ℕ) (given : Result (Versioned) ReadFault) → length bytes ≤ longest_text → GivesText (λ journals. journals) given (lines_of 1 stages.Header (split 10 bytes))
+pub found : (bytes : List ℕ) (given : Result (Versioned) ReadFault) → length bytes ≤ longest_text → GivesText (λ journals. journals) given (lines_of 1 sections.Header (split 10 bytes))
     → (journals : Versioned) → are_within journals ≡ true → bytes ≡ text journals → GivesText (λ journals. journals) given (Ok journals)
 found bytes given short e journals a same =
     let read : journals_of bytes ≡ Ok journals = ap journals_of same ∙ back journals a in

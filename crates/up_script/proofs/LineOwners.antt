@@ -1,7 +1,7 @@
 -- Whose a line is, by what it does.
 use Rattle.std.proofs.Common.{◌≡◌, ℕ, ◌*◌, true, List, Result, Ok, Err, refl, subst}
 use Rattle.up_num.specs.Span.{Span}
-use Rattle.up_words.specs.Steps.{◌>>=◌}
+use Rattle.up_words.specs.ReadSteps.{◌>>=◌}
 use Rattle.up_words.specs.Words.{word_at}
 use Rattle.up_words.specs.Numbers.{number_between}
 use Rattle.up_words.specs.Runs.{bytes_between}
@@ -24,7 +24,7 @@ use Rattle.up_script.specs.declared.verbs.Over.TheVariants as over
 use Rattle.up_script.specs.declared.verbs.Verb.{Verb}
 use Rattle.up_script.specs.declared.verbs.Verb.TheVariants.{Alone, OnObject}
 
-bind_ok : {X Y : Type 0} (r : Result X Why) (next : X → Result Y Why) (y : Y) → (r >>= next) ≡ Ok y → (x : X) × (r ≡ Ok x) × (next x ≡ Ok y)
+pub bind_ok : {X Y : Type 0} (r : Result X Why) (next : X → Result Y Why) (y : Y) → (r >>= next) ≡ Ok y → (x : X) × (r ≡ Ok x) × (next x ≡ Ok y)
 bind_ok (Ok x) next y e = (x, refl, e)
 bind_ok (Err reason) next y e = absurd cc
 

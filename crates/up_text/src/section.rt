@@ -10,7 +10,7 @@ pub struct Part {
 
 /// What the next line has to be, and what the lines before it said.
 #[derive(Drop)]
-pub enum Stage {
+pub enum Section {
     Header,
     /// A journal begins, or the text ends.
     Between(Part),

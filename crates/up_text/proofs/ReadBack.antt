@@ -9,7 +9,7 @@ use Rattle.std.proofs.lemmas.List.Sums.{sum_by-cons}
 use Rattle.std.proofs.lemmas.List.Concat.{flat_map-cons}
 use Rattle.up_model.specs.declared.entry.Birth.{Birth}
 use Rattle.up_model.specs.declared.entry.Entry.{Entry}
-use Rattle.up_words.specs.Steps.{◌>>=◌, at_line}
+use Rattle.up_words.specs.ReadSteps.{◌>>=◌, at_line}
 use Rattle.up_words.specs.Words.{split, is_word}
 use Rattle.up_words.specs.Names.{is_name}
 use Rattle.up_words.specs.declared.fault.Why.{Why}
@@ -24,9 +24,9 @@ use Rattle.up_fields.specs.Allowed.{lies}
 use Rattle.up_text.specs.Allowed.{entry_allowed, birth_allowed, journal_allowed, are_new, have_texts, are_allowed, entry_bytes, journal_bytes}
 use Rattle.up_text.specs.Laws.{ReadsItsText}
 use Rattle.up_text.specs.declared.journals.Named.{Named}
-use Rattle.up_text.specs.declared.stage.Part.{Part}
-use Rattle.up_text.specs.declared.stage.Stage.{Stage}
-use Rattle.up_text.specs.declared.stage.Stage.TheVariants as stages
+use Rattle.up_text.specs.declared.section.Part.{Part}
+use Rattle.up_text.specs.declared.section.Section.{Section}
+use Rattle.up_text.specs.declared.section.Section.TheVariants as sections
 use Rattle.up_text.proofs.Lines.{lines_more, lines_last}
 use Rattle.up_fields.proofs.Values.{other_first, first_digit, number_again, number_word, flag_again}
 use Rattle.up_fields.proofs.Listed.{is_free}
@@ -38,14 +38,14 @@ abbrev so_far : ℕ → List Named → ℕ → Part
 so_far version journals bytes = record { journals = record { version = version; list = journals }; bytes = bytes }
 
 -- the journals and the open one, after so many bytes
-abbrev between : ℕ → List Named → ℕ → Stage
-between version journals bytes = stages.Between (so_far version journals bytes)
+abbrev between : ℕ → List Named → ℕ → Section
+between version journals bytes = sections.Between (so_far version journals bytes)
 
-abbrev within : ℕ → List Named → ℕ → List ℕ → Birth → List Entry → Stage
-within version journals bytes name birth entries = stages.Within (so_far version journals bytes) (record { name = name; birth = birth; entries = entries })
+abbrev within : ℕ → List Named → ℕ → List ℕ → Birth → List Entry → Section
+within version journals bytes name birth entries = sections.Within (so_far version journals bytes) (record { name = name; birth = birth; entries = entries })
 
 -- one line goes by
-one_line : (n : ℕ) (s t : Stage) (line rest : List ℕ) → is_free 10 line ≡ true → line_step s line ≡ Ok t → lines_of n s (split 10 ((line ++ 10 ∷ []) ++ rest)) ≡ lines_of (n + 1) t (split 10 rest)
+one_line : (n : ℕ) (s t : Section) (line rest : List ℕ) → is_free 10 line ≡ true → line_step s line ≡ Ok t → lines_of n s (split 10 ((line ++ 10 ∷ []) ++ rest)) ≡ lines_of (n + 1) t (split 10 rest)
 one_line n s t line rest free e = ap (lines_of n s) (split_line line rest free) ∙ lines_more n s t line rest (ap (at_line n) e)
 
 -- the line of an entry
@@ -98,7 +98,7 @@ journal_parts numbers journal a =
 
 -- the line that begins a journal
 birth_line : (numbers : Bool) (part : Part) (name : List ℕ) (birth : Birth) → is_name name ≡ true → birth_allowed numbers birth ≡ true → has_name part.journals.list name ≡ false → length part.journals.list < most_journals
-    → between_line numbers part (birth_words numbers name birth) ≡ Ok (stages.Within part (record { name = name; birth = birth; entries = [] }))
+    → between_line numbers part (birth_words numbers name birth) ≡ Ok (sections.Within part (record { name = name; birth = birth; entries = [] }))
 birth_line numbers part name birth named a new few =
     rw (
       eq-eqb (length (birth_words numbers name birth)) (birth_size numbers) (birth_long numbers name birth),
@@ -175,21 +175,21 @@ Reads v = version_in (header (has_numbers v)) ≡ Ok v
 pub header_reads : (version : ℕ) → is_version version ≡ true → version_in (header (has_numbers version)) ≡ Ok version
 header_reads version e = ⊎_elim (λ one. subst Reads (sym one) refl) (λ two. subst Reads (sym two) refl) (version_is version e)
 
-header_step : (version : ℕ) → is_version version ≡ true → line_step stages.Header (header (has_numbers version)) ≡ Ok (between version [] 0)
+header_step : (version : ℕ) → is_version version ≡ true → line_step sections.Header (header (has_numbers version)) ≡ Ok (between version [] 0)
 header_step version e = rw (header_reads version e) refl
 
 pub header_free : (numbers : Bool) → is_free 10 (header numbers) ≡ true
 header_free true = refl
 header_free false = refl
 
-done_step : (version : ℕ) (journals : List Named) (bytes : ℕ) → line_step (between version journals bytes) (line_of (codes "done" ∷ [])) ≡ Ok (stages.Ended (record { version = version; list = journals }))
+done_step : (version : ℕ) (journals : List Named) (bytes : ℕ) → line_step (between version journals bytes) (line_of (codes "done" ∷ [])) ≡ Ok (sections.Ended (record { version = version; list = journals }))
 done_step version journals bytes = ap (λ (r : Result (List (List ℕ)) Why). r >>= λ words. between_line (has_numbers version) (so_far version journals bytes) words) (words_again (codes "done" ∷ []) (omega arith) refl)
 
 -- behind the line done nothing stands
-end_again : (n : ℕ) (journals : Versioned) → lines_of n (stages.Ended journals) (split 10 []) ≡ Ok journals
-end_again n journals = lines_last n (stages.Ended journals) []
+end_again : (n : ℕ) (journals : Versioned) → lines_of n (sections.Ended journals) (split 10 []) ≡ Ok journals
+end_again n journals = lines_last n (sections.Ended journals) []
 
-text_again : (journals : Versioned) → are_allowed journals ≡ true → length journals.list ≤ most_journals → sum_by journal_bytes journals.list ≤ most_bytes → lines_of 1 stages.Header (split 10 (text journals)) ≡ Ok journals
+text_again : (journals : Versioned) → are_allowed journals ≡ true → length journals.list ≤ most_journals → sum_by journal_bytes journals.list ≤ most_bytes → lines_of 1 sections.Header (split 10 (text journals)) ≡ Ok journals
 text_again journals a few room =
     let version = journals.version in
     let numbers = has_numbers version in
@@ -198,10 +198,10 @@ text_again journals a few room =
     let q = and_parts (is_version version) (list_all (journal_allowed numbers) list) p.0 in
     let middle = flat_map (journal_text numbers) list in
     let last = line_text (codes "done" ∷ []) in
-    let begins = one_line 1 stages.Header (between version [] 0) (header numbers) (middle ++ last) (header_free numbers) (header_step version q.0) in
+    let begins = one_line 1 sections.Header (between version [] 0) (header numbers) (middle ++ last) (header_free numbers) (header_step version q.0) in
     let goes = journals_again version [] 0 list 2 last q.1 p.1 (omega (arith, few)) (omega (arith, room)) in
-    let ends = one_line goes.0 (between version list goes.1) (stages.Ended journals) (line_of (codes "done" ∷ [])) [] (line_free (codes "done" ∷ []) refl) (done_step version list goes.1) in
-    ap (λ b. lines_of 1 stages.Header (split 10 b)) (append_assoc (header numbers ++ codes "\n") middle (codes "done\n")) ∙ begins ∙ goes.2
+    let ends = one_line goes.0 (between version list goes.1) (sections.Ended journals) (line_of (codes "done" ∷ [])) [] (line_free (codes "done" ∷ []) refl) (done_step version list goes.1) in
+    ap (λ b. lines_of 1 sections.Header (split 10 b)) (append_assoc (header numbers ++ codes "\n") middle (codes "done\n")) ∙ begins ∙ goes.2
     ∙ ap (λ b. lines_of goes.0 (between version list goes.1) (split 10 b)) (sym (append-nil last)) ∙ ends ∙ end_again (goes.0 + 1) journals
 
 -- the text of journals within the limits is read as these journals

@@ -6,11 +6,11 @@ use Rattle.std.specs.Str.{bytes_eq}
 use Rattle.std.proofs.Math.Nat.{div-le_self, div-mul-le_self}
 use Rattle.std.proofs.lemmas.Nat.{le-div}
 use Rattle.std.proofs.lemmas.Bool.Decides.{nat_tests}
-use Rattle.std.proofs.lemmas.Bool.{and_parts, leb-true, ltb-true, ltb-false, lt-ltb, le-leb, not-true}
+use Rattle.std.proofs.lemmas.Bool.{and_parts, eqb-true, leb-true, ltb-true, ltb-false, lt-ltb, le-leb, not-true}
 use Rattle.std.proofs.lemmas.List.{map-append}
 use Rattle.std.proofs.lemmas.List.Folds.{list_all-append, list_any-append, list_any_none}
 use Rattle.std.proofs.lemmas.List.Sums.{fails_before_first, sum_by_push}
-use Rattle.up_words.specs.Steps.{◌>>=◌, check, or_why, each, at_line, lines_from, GivesText}
+use Rattle.up_words.specs.ReadSteps.{◌>>=◌, check, or_why, each, at_line, lines_from, GivesText}
 use Rattle.up_words.specs.Words.{split, words_in, word_at, word_is, verb_is}
 use Rattle.up_words.specs.Numbers.{number, number_between}
 use Rattle.up_words.specs.Names.{is_name}
@@ -19,11 +19,11 @@ use Rattle.up_words.specs.declared.fault.ReadFault.{ReadFault}
 use Rattle.up_words.specs.declared.fault.Why.{Why}
 use Rattle.up_words.specs.declared.fault.Why.TheVariants as why
 use Rattle.up_words.proofs.Decimals.{then_ok, ok_is, both, only}
-use Rattle.up_script.specs.Actions.{act, actor_in, action_in, object_of, is_bound, kind_of, may_act, has_left, has_what_it_needs, bytes_of, with_line}
+use Rattle.up_script.specs.Actions.{act, actor_in, action_in, object_of, is_bound, kind_of, may_act, has_left, has_what_it_needs, bytes_of, with_leave, with_line}
 use Rattle.up_script.specs.Declarations.{is_first, may_loan, may_level, may_object, nothing_declared, frames_line, loan_line, levels_line, new_name, limit_in, image_in, with_object, object_line, object_in, bind_step, may_serve, with_actor, bound_line, first_numbers, evictor_line, binds, actor_line, says_numbered, says_object, declaration_line, with_all_counted, is_whole}
-use Rattle.up_script.specs.Fit.{are_unlike, are_fit_frames, names_of, name_in, images_of, names_its_image, is_in_version, is_fit_actor, may_do, suits_object, is_fit_line, Fits, SpellsFitting}
+use Rattle.up_script.specs.Fit.{are_unlike, are_fit_frames, names_of, name_in, images_of, names_its_image, is_in_version, is_fit_actor, may_do, suits_object, is_fit_line, AllLeave, all_stay, binds_right, Fits, SpellsFitting}
 use Rattle.up_script.specs.Objects.{object_named, actor_named, image_named, is_image, has_image, is_among, counted, count_step, with_counts, is_served}
-use Rattle.up_script.specs.Reading.{nothing_played, declaring, stage_step, is_skipped, content, line_step, script_in, ended, last_step, script_of}
+use Rattle.up_script.specs.Reading.{nothing_played, declaring, section_step, is_skipped, content, line_step, script_in, ended, last_step, script_of}
 use Rattle.up_script.specs.Sound.{is_within}
 use Rattle.up_script.specs.Versions.{is_version, has_modes, version_in}
 use Rattle.up_script.specs.Verbs.{verb_of, says}
@@ -31,8 +31,8 @@ use Rattle.up_script.specs.declared.declarations.Declared.{Declared}
 use Rattle.up_script.specs.declared.declarations.Last.{Last}
 use Rattle.up_script.specs.declared.declarations.Last.TheVariants as last
 use Rattle.up_script.specs.declared.played.Played.{Played}
-use Rattle.up_script.specs.declared.reading.Stage.{Stage}
-use Rattle.up_script.specs.declared.reading.Stage.TheVariants as stages
+use Rattle.up_script.specs.declared.reading.Section.{Section}
+use Rattle.up_script.specs.declared.reading.Section.TheVariants as sections
 use Rattle.up_script.specs.declared.script.ActorLine.{ActorLine}
 use Rattle.up_script.specs.declared.script.Kind.{Kind}
 use Rattle.up_script.specs.declared.script.Kind.TheVariants.{User, Pager, Worker, Evictor}
@@ -40,7 +40,8 @@ use Rattle.up_script.specs.declared.script.Line.{Line}
 use Rattle.up_script.specs.declared.script.ObjectLine.{ObjectLine}
 use Rattle.up_script.specs.declared.script.Script.{Script}
 use Rattle.up_script.proofs.Counts.{one_longer}
-use Rattle.up_script.proofs.Doing.{may_of, same_needs}
+use Rattle.up_script.proofs.LineOwners.{may_of, same_needs}
+use Rattle.up_script.proofs.Leaving.{IsLong, right_bound, evictor_bound, leave_of, leaves_push, no_leaves, left_after, left_push, nobody_left, stays_push, all_stay_none}
 use Rattle.up_script.proofs.FirstLine.{says as says_version, within_version}
 
 pub bind_ok : {X Y : Type 0} (r : Result X Why) (next : X → Result Y Why) (y : Y) → (r >>= next) ≡ Ok y → (x : X) × (r ≡ Ok x) × (next x ≡ Ok y)
@@ -120,6 +121,10 @@ abbrev is_acted : Last → Bool
 is_acted last.Actor = true
 is_acted _ = false
 
+-- an actor acts on as many objects as its kind may
+abbrev pub binds_as : List ObjectLine → ActorLine → Bool
+binds_as objects actor = binds_right actor.kind (length objects) actor.objects
+
 pub record Declares (declared : Declared) : Type 0 where
   pub version : is_version declared.version ≡ true
   pub modes : list_all (is_in_version declared.version) declared.objects ≡ true
@@ -129,6 +134,7 @@ pub record Declares (declared : Declared) : Type 0 where
   pub images : are_unlike bytes_eq (images_of declared.objects) ≡ true
   pub imaged : list_all names_its_image declared.objects ≡ true
   pub actors : list_all (is_fit_actor declared.objects) declared.actors ≡ true
+  pub bound : list_all (binds_as declared.objects) declared.actors ≡ true
 
 -- where each line may stand
 loan_after : (l : Last) → may_loan l ≡ true → (is_first l ≡ false) × (is_acted l ≡ false)
@@ -198,6 +204,7 @@ frames_step line declared t words first d e =
       images = d.images;
       imaged = d.imaged;
       actors = d.actors;
+      bound = d.bound;
     })
 
 loan_step : (line : ℕ) (declared t : Declared) (words : List (List ℕ)) → may_loan declared.last ≡ true → Declares declared → loan_line line declared words ≡ Ok t → Declares t
@@ -216,6 +223,7 @@ loan_step line declared t words after d e =
       images = d.images;
       imaged = d.imaged;
       actors = d.actors;
+      bound = d.bound;
     })
 
 levels_step : (declared t : Declared) (words : List (List ℕ)) → may_level declared.last ≡ true → Declares declared → levels_line declared words ≡ Ok t → Declares t
@@ -236,6 +244,7 @@ levels_step declared t words after d e =
       images = d.images;
       imaged = d.imaged;
       actors = d.actors;
+      bound = d.bound;
     })
 
 -- a name that is new
@@ -344,11 +353,13 @@ object_step line declared t words after d e =
       images = ap (are_unlike bytes_eq) (images_push declared.objects made) ∙ images_more declared (word_at words 5) image.0 d.images image.1;
       imaged = all_push names_its_image declared.objects made d.imaged (named_image image.0);
       actors = ap (list_all (is_fit_actor (declared.objects ++ made ∷ []))) none;
+      bound = ap (list_all (binds_as (declared.objects ++ made ∷ []))) none;
     })
 
 -- one actor more, that is fit
-actor_more : (declared t : Declared) (actor : ActorLine) → Declares declared → is_first declared.last ≡ false → IsNew declared actor.name → is_fit_actor declared.objects actor ≡ true → with_actor declared actor ≡ Ok t → Declares t
-actor_more declared t actor d later new fit e =
+actor_more : (declared t : Declared) (actor : ActorLine) → Declares declared → is_first declared.last ≡ false → IsNew declared actor.name → is_fit_actor declared.objects actor ≡ true → binds_as declared.objects actor ≡ true
+    → with_actor declared actor ≡ Ok t → Declares t
+actor_more declared t actor d later new fit right e =
     let few = then_ok why.Limit (ltb (length declared.actors) 64) _ t e in
     subst Declares (ok_is _ t few.1) (record {
       version = d.version;
@@ -359,6 +370,7 @@ actor_more declared t actor d later new fit e =
       images = d.images;
       imaged = d.imaged;
       actors = all_push (is_fit_actor declared.objects) declared.actors actor d.actors fit;
+      bound = all_push (binds_as declared.objects) declared.actors actor d.bound right;
     })
 
 abbrev pub same_number : ℕ → ℕ → Bool
@@ -390,8 +402,9 @@ nothing_bound : (declared : Declared) → Bound declared []
 unfolding are_unlike
 nothing_bound declared = record { inside = refl; apart = refl }
 
-bound_step : (kind : Kind) (line : ℕ) (declared t : Declared) (words : List (List ℕ)) → is_first declared.last ≡ false → Declares declared → bound_line kind line declared words ≡ Ok t → Declares t
-bound_step kind line declared t words later d e =
+bound_step : (kind : Kind) (line : ℕ) (declared t : Declared) (words : List (List ℕ)) → IsLong kind (length words) → is_first declared.last ≡ false → Declares declared
+    → bound_line kind line declared words ≡ Ok t → Declares t
+bound_step kind line declared t words long later d e =
     let name = bind_ok (new_name declared (word_at words 1)) _ t e in
     let objects = bind_ok (each (bind_step declared) [] (drop 2 words)) _ t name.2 in
     let role = then_ok why.Role (list_all (may_serve kind declared.objects) objects.0) _ t objects.2 in
@@ -401,7 +414,8 @@ bound_step kind line declared t words later d e =
     let inside = list_all (λ o. ltb o (length declared.objects)) objects.0 in
     let rest = are_unlike same_number objects.0 && list_all (may_serve kind declared.objects) objects.0 in
     actor_more declared t actor d later new
-    (both (is_name name.0) (inside && rest) new.is (both inside rest b.inside (both (are_unlike same_number objects.0) (list_all (may_serve kind declared.objects) objects.0) b.apart role.0))) role.1
+    (both (is_name name.0) (inside && rest) new.is (both inside rest b.inside (both (are_unlike same_number objects.0) (list_all (may_serve kind declared.objects) objects.0) b.apart role.0)))
+    (right_bound declared kind words objects.0 objects.1 long) role.1
 
 -- the first numbers: below the count, and different
 numbers_below : (n most : ℕ) → n ≤ most → list_all (λ o. ltb o most) (first_numbers n) ≡ true
@@ -436,13 +450,20 @@ evictor_step line declared t words later d e =
     let inside = list_all (λ o. ltb o n) all in
     let rest = are_unlike same_number all && list_all (may_serve Evictor declared.objects) all in
     actor_more declared t actor d later new
-    (both (is_name name.0) (inside && rest) new.is (both inside rest (numbers_below n n (omega arith)) (both (are_unlike same_number all) (list_all (may_serve Evictor declared.objects) all) (numbers_apart n) (evictor_serves declared.objects all)))) name.2
+    (both (is_name name.0) (inside && rest) new.is (both inside rest (numbers_below n n (omega arith)) (both (are_unlike same_number all) (list_all (may_serve Evictor declared.objects) all) (numbers_apart n) (evictor_serves declared.objects all))))
+    (evictor_bound n) name.2
+
+three_or_more : (words : List (List ℕ)) (kind : List ℕ) → binds words kind ≡ true → 3 ≤ length words
+three_or_more words kind e = leb-true 3 (length words) (and_parts (word_is words 0 kind) (leb 3 (length words)) e).1
+
+just_three : (words : List (List ℕ)) → verb_is words 0 (codes "worker") 3 ≡ true → length words ≡ 3
+just_three words e = eqb-true (length words) 3 (and_parts (word_is words 0 (codes "worker")) (eqb (length words) 3) e).1
 
 actor_step : (line : ℕ) (declared t : Declared) (words : List (List ℕ)) → is_first declared.last ≡ false → Declares declared → actor_line line declared words ≡ Ok t → Declares t
 actor_step line declared t words later d e =
-    ⊎_elim (λ p. bound_step User line declared t words later d p.1) (λ p.
-    ⊎_elim (λ q. bound_step Pager line declared t words later d q.1) (λ q.
-    ⊎_elim (λ r. bound_step Worker line declared t words later d r.1) (λ r.
+    ⊎_elim (λ p. bound_step User line declared t words (three_or_more words (codes "user") p.0) later d p.1) (λ p.
+    ⊎_elim (λ q. bound_step Pager line declared t words (three_or_more words (codes "pager") q.0) later d q.1) (λ q.
+    ⊎_elim (λ r. bound_step Worker line declared t words (just_three words r.0) later d r.1) (λ r.
     ⊎_elim (λ s. evictor_step line declared t words later d s.1) (λ s. absurd (no_word why.Word t s.1))
     (either (verb_is words 0 (codes "evictor") 2) _ _ (Ok t) r.1))
     (either (verb_is words 0 (codes "worker") 3) _ _ (Ok t) q.1))
@@ -497,6 +518,11 @@ counted_length : (actors : List ActorLine) (n : ℕ) (objects : List ObjectLine)
 counted_length actors n [] = refl
 counted_length actors n (o ∷ os) = ap suc (counted_length actors (suc n) os)
 
+-- counted again they are the same
+counted_again : (actors : List ActorLine) (n : ℕ) (objects : List ObjectLine) → counted_from actors n (counted_from actors n objects) ≡ counted_from actors n objects
+counted_again actors n [] = refl
+counted_again actors n (o ∷ os) = ap (λ os. with_counts actors n o ∷ os) (counted_again actors (suc n) os)
+
 counted_has : (actors : List ActorLine) (n : ℕ) (objects : List ObjectLine) (place : ℕ) → has_image (counted_from actors n objects) place ≡ has_image objects place
 counted_has actors n [] place = refl
 counted_has actors n (o ∷ os) zero = refl
@@ -537,6 +563,11 @@ pub record Plays (declared : Declared) (played : Played) : Type 0 where
   pub actors : list_all (is_fit_actor declared.objects) declared.actors ≡ true
   pub lines : list_all (is_fit_line declared.objects declared.actors) played.lines ≡ true
   pub bytes : played.room + sum_by line_bytes played.lines ≡ 67108864
+  pub counts : counted declared.actors declared.objects ≡ declared.objects
+  pub bound : list_all (binds_as declared.objects) declared.actors ≡ true
+  pub leaves : AllLeave declared.actors played.lines
+  pub left : played.left ≡ left_after [] played.lines
+  pub stays : all_stay [] played.lines ≡ true
 
 steps_begin : (declared : Declared) → Declares declared → is_whole (with_all_counted declared) ≡ true → Plays (with_all_counted declared) nothing_played
 steps_begin declared d whole =
@@ -557,6 +588,11 @@ steps_begin declared d whole =
       actors = all_same (is_fit_actor objects) (is_fit_actor declared.objects) actors (λ actor. actor_alike objects declared.objects actor alike) ∙ d.actors;
       lines = refl;
       bytes = refl;
+      counts = ap (counted actors) is ∙ count_steps actors [] (counted_from actors 0 declared.objects) ∙ counted_again actors 0 declared.objects ∙ sym is;
+      bound = ap (λ n. list_all (λ (a : ActorLine). binds_right a.kind n a.objects) actors) alike.long ∙ d.bound;
+      leaves = no_leaves actors;
+      left = sym nobody_left;
+      stays = all_stay_none;
     }
 
 act_step : (number : ℕ) (declared : Declared) (played t : Played) (words : List (List ℕ)) → Plays declared played → act declared number played words ≡ Ok t → Plays declared t
@@ -586,62 +622,67 @@ act_step number declared played t words p e =
       actors = p.actors;
       lines = all_push (is_fit_line declared.objects declared.actors) played.lines line p.lines fit;
       bytes = omega (arith, p.bytes, fits, sum_by_push line_bytes played.lines line);
+      counts = p.counts;
+      bound = p.bound;
+      leaves = leaves_push declared.actors played.lines line p.leaves (leave_of declared kind verb.0 words action.0 action.1);
+      left = ap (λ left. with_leave left actor.0 action.0) p.left ∙ sym (left_push [] played.lines line);
+      stays = stays_push [] played.lines line p.stays (ap (λ left. has_left left actor.0 (object_of action.0)) (sym p.left) ∙ not-true (has_left played.left actor.0 (object_of action.0)) here.0);
     })
 
--- a stage keeps what every script keeps
-abbrev pub Keeps : Stage → Type 0
-Keeps stages.Header = Unit {0}
-Keeps (stages.Declaring declared) = Declares declared
-Keeps (stages.Acting declared played) = Plays declared played
+-- a section keeps what every script keeps
+abbrev pub Keeps : Section → Type 0
+Keeps sections.Header = Unit {0}
+Keeps (sections.Declaring declared) = Declares declared
+Keeps (sections.Acting declared played) = Plays declared played
 
 pub nothing_declares : (version : ℕ) → is_version version ≡ true → Declares (nothing_declared version)
 unfolding are_unlike images_of
-nothing_declares version known = record { version = known; modes = refl; frames = λ q. absurd cc; none = λ _. refl; names = refl; images = refl; imaged = refl; actors = refl }
+nothing_declares version known = record { version = known; modes = refl; frames = λ q. absurd cc; none = λ _. refl; names = refl; images = refl; imaged = refl; actors = refl; bound = refl }
 
-declaring_step : (number : ℕ) (declared : Declared) (t : Stage) (words : List (List ℕ)) → Declares declared → declaring number declared words ≡ Ok t → Keeps t
+declaring_step : (number : ℕ) (declared : Declared) (t : Section) (words : List (List ℕ)) → Declares declared → declaring number declared words ≡ Ok t → Keeps t
 declaring_step number declared t words d e = ⊎_elim ends more (either (verb_is words 0 (codes "steps") 1)
-    (check why.Missing (is_whole (with_all_counted declared)) >>= λ whole. Ok (stages.Acting (with_all_counted declared) nothing_played))
-    (declaration_line number declared words >>= λ more. Ok (stages.Declaring more)) (Ok t) e)
+    (check why.Missing (is_whole (with_all_counted declared)) >>= λ whole. Ok (sections.Acting (with_all_counted declared) nothing_played))
+    (declaration_line number declared words >>= λ more. Ok (sections.Declaring more)) (Ok t) e)
   where
-    ends : (verb_is words 0 (codes "steps") 1 ≡ true) × ((check why.Missing (is_whole (with_all_counted declared)) >>= λ whole. Ok (stages.Acting (with_all_counted declared) nothing_played)) ≡ Ok t) → Keeps t
+    ends : (verb_is words 0 (codes "steps") 1 ≡ true) × ((check why.Missing (is_whole (with_all_counted declared)) >>= λ whole. Ok (sections.Acting (with_all_counted declared) nothing_played)) ≡ Ok t) → Keeps t
     ends p =
         let whole = then_ok why.Missing (is_whole (with_all_counted declared)) _ t p.1 in
-        subst Keeps (ok_is (stages.Acting (with_all_counted declared) nothing_played) t whole.1) (steps_begin declared d whole.0)
+        subst Keeps (ok_is (sections.Acting (with_all_counted declared) nothing_played) t whole.1) (steps_begin declared d whole.0)
 
-    more : (verb_is words 0 (codes "steps") 1 ≡ false) × ((declaration_line number declared words >>= λ more. Ok (stages.Declaring more)) ≡ Ok t) → Keeps t
+    more : (verb_is words 0 (codes "steps") 1 ≡ false) × ((declaration_line number declared words >>= λ more. Ok (sections.Declaring more)) ≡ Ok t) → Keeps t
     more p =
         let made = bind_ok (declaration_line number declared words) _ t p.1 in
-        subst Keeps (ok_is (stages.Declaring made.0) t made.2) (declaration_step number declared made.0 words d made.1)
+        subst Keeps (ok_is (sections.Declaring made.0) t made.2) (declaration_step number declared made.0 words d made.1)
 
-stage_keeps : (number : ℕ) (s t : Stage) (words : List (List ℕ)) → Keeps s → stage_step number s words ≡ Ok t → Keeps t
-stage_keeps number stages.Header t words k e = absurd (no_word why.Header t e)
-stage_keeps number (stages.Declaring declared) t words k e = declaring_step number declared t words k e
-stage_keeps number (stages.Acting declared played) t words k e =
+section_keeps : (number : ℕ) (s t : Section) (words : List (List ℕ)) → Keeps s → section_step number s words ≡ Ok t → Keeps t
+section_keeps number sections.Header t words k e = absurd (no_word why.Header t e)
+section_keeps number (sections.Declaring declared) t words k e = declaring_step number declared t words k e
+section_keeps number (sections.Acting declared played) t words k e =
     let made = bind_ok (act declared number played words) _ t e in
-    subst Keeps (ok_is (stages.Acting declared made.0) t made.2) (act_step number declared played made.0 words k made.1)
+    subst Keeps (ok_is (sections.Acting declared made.0) t made.2) (act_step number declared played made.0 words k made.1)
 
 -- a line that is skipped, or made of words
-spoken : (number : ℕ) (s t : Stage) (line : List ℕ) → Keeps s → cond (is_skipped line) (Ok s) (words_in line >>= λ words. stage_step number s words) ≡ Ok t → Keeps t
-spoken number s t line k e = ⊎_elim (λ p. subst Keeps (ok_is s t p.1) k) (λ p. let words = bind_ok (words_in line) _ t p.1 in stage_keeps number s t words.0 k words.2)
-    (either (is_skipped line) (Ok s) (words_in line >>= λ words. stage_step number s words) (Ok t) e)
+spoken : (number : ℕ) (s t : Section) (line : List ℕ) → Keeps s → cond (is_skipped line) (Ok s) (words_in line >>= λ words. section_step number s words) ≡ Ok t → Keeps t
+spoken number s t line k e = ⊎_elim (λ p. subst Keeps (ok_is s t p.1) k) (λ p. let words = bind_ok (words_in line) _ t p.1 in section_keeps number s t words.0 k words.2)
+    (either (is_skipped line) (Ok s) (words_in line >>= λ words. section_step number s words) (Ok t) e)
 
-content_keeps : (number : ℕ) (s t : Stage) (line : List ℕ) → Keeps s → content number s line ≡ Ok t → Keeps t
-content_keeps number stages.Header t line k e =
+content_keeps : (number : ℕ) (s t : Section) (line : List ℕ) → Keeps s → content number s line ≡ Ok t → Keeps t
+content_keeps number sections.Header t line k e =
     let version = found_ok why.Header (version_in line) _ t e in
-    subst Keeps (ok_is (stages.Declaring (nothing_declared version.0)) t version.2) (nothing_declares version.0 (says_version line version.0 version.1).known)
-content_keeps number (stages.Declaring declared) t line k e = spoken number (stages.Declaring declared) t line k e
-content_keeps number (stages.Acting declared played) t line k e = spoken number (stages.Acting declared played) t line k e
+    subst Keeps (ok_is (sections.Declaring (nothing_declared version.0)) t version.2) (nothing_declares version.0 (says_version line version.0 version.1).known)
+content_keeps number (sections.Declaring declared) t line k e = spoken number (sections.Declaring declared) t line k e
+content_keeps number (sections.Acting declared played) t line k e = spoken number (sections.Acting declared played) t line k e
 
-pub line_keeps : (number : ℕ) (s t : Stage) (line : List ℕ) → Keeps s → line_step number s line ≡ Ok t → Keeps t
+pub line_keeps : (number : ℕ) (s t : Section) (line : List ℕ) → Keeps s → line_step number s line ≡ Ok t → Keeps t
 line_keeps number s t line k e =
     let short = then_ok why.Long (leb (length line) 4096) _ t e in
     let few = then_ok why.Limit (leb number 65536) _ t short.1 in
     content_keeps number s t line k few.1
 
-ended_keeps : (s : Stage) (script : Script) → Keeps s → ended s ≡ Ok script → Fits script
-ended_keeps stages.Header script k e = absurd (no_word why.Header script e)
-ended_keeps (stages.Declaring declared) script k e = absurd (no_word why.Missing script e)
-ended_keeps (stages.Acting declared played) script k e = subst Fits (ok_is (script_in declared played) script e) (record {
+ended_keeps : (s : Section) (script : Script) → Keeps s → ended s ≡ Ok script → Fits script
+ended_keeps sections.Header script k e = absurd (no_word why.Header script e)
+ended_keeps (sections.Declaring declared) script k e = absurd (no_word why.Missing script e)
+ended_keeps (sections.Acting declared played) script k e = subst Fits (ok_is (script_in declared played) script e) (record {
   version = k.version;
   modes = k.modes;
   frames = k.frames;
@@ -651,9 +692,13 @@ ended_keeps (stages.Acting declared played) script k e = subst Fits (ok_is (scri
   actors = k.actors;
   lines = k.lines;
   bytes = omega (arith, k.bytes);
+  counts = k.counts;
+  bound = k.bound;
+  leaves = k.leaves;
+  stays = k.stays;
 })
 
-last_keeps : (number : ℕ) (s : Stage) (rest : List ℕ) (script : Script) → Keeps s → last_step number s rest ≡ Ok script → Fits script
+last_keeps : (number : ℕ) (s : Section) (rest : List ℕ) (script : Script) → Keeps s → last_step number s rest ≡ Ok script → Fits script
 last_keeps number s [] script k e = ended_keeps s script k e
 last_keeps number s (byte ∷ bytes) script k e =
     let short = then_ok why.Long (leb (length (byte ∷ bytes)) 4096) _ script e in
@@ -668,7 +713,7 @@ pub bind_line : {X Y : Type 0} (r : Result X Fault) (next : X → Result Y Fault
 bind_line (Ok x) next y e = (x, refl, e)
 bind_line (Err fault) next y e = absurd cc
 
-lines_keep : (n : ℕ) (s : Stage) (lines : List (List ℕ)) (script : Script) → Keeps s → lines_from line_step last_step n s lines ≡ Ok script → Fits script
+lines_keep : (n : ℕ) (s : Section) (lines : List (List ℕ)) (script : Script) → Keeps s → lines_from line_step last_step n s lines ≡ Ok script → Fits script
 unfolding lines_from
 lines_keep n s [] script k e = absurd cc
 lines_keep n s (rest ∷ []) script k e = last_keeps n s rest script k (ok_line n (last_step n s rest) script e)
@@ -680,8 +725,8 @@ pub too_long : (script : Script) → ◌≡◌ {A = Result Script Fault} (Err (r
 too_long script e = cc
 
 pub fitting : SpellsFitting
-fitting bytes script e = ⊎_elim (λ p. lines_keep 1 stages.Header (split 10 bytes) script tt p.1) (λ p. absurd (too_long script p.1))
-    (either (leb (length bytes) 4194304) (lines_from line_step last_step 1 stages.Header (split 10 bytes)) (Err (record { line = 0; why = why.Long })) (Ok script) e)
+fitting bytes script e = ⊎_elim (λ p. lines_keep 1 sections.Header (split 10 bytes) script tt p.1) (λ p. absurd (too_long script p.1))
+    (either (leb (length bytes) 4194304) (lines_from line_step last_step 1 sections.Header (split 10 bytes)) (Err (record { line = 0; why = why.Long })) (Ok script) e)
 
 -- and so does what a reader gives
 pub fits_given : (bytes : List ℕ) (given : Result Script ReadFault) → GivesText (λ script. script) given (script_of bytes) → IfOk given Fits
