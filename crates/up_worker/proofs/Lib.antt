@@ -1,7 +1,8 @@
 pub mod PieceAt
-pub mod Keeping
-pub mod Wished
-pub mod Saying
-pub mod Telling
-pub mod Ruling
-pub mod Framing
+pub mod AnswersKeep
+pub mod AfterWishes
+pub mod StandingWishes
+pub mod CourseTold
+pub mod CourseRules
+pub mod BroughtFrames
+mod Stepping

@@ -11,7 +11,7 @@ use Rattle.up_script.specs.declared.script.Action.{Action}
 use Rattle.up_script.specs.declared.script.Action.TheVariants as actions
 use Rattle.up_worker.specs.Acting.{Acting, unborn}
 use Rattle.up_worker.specs.Calls.{bringing, bare, frames_before}
-use Rattle.up_worker.specs.Lives.{Entered, Event, Begins, Hears, leads, tale, Lived, is_evict}
+use Rattle.up_worker.specs.Courses.{Entered, Event, Begins, Hears, leads, tale, IsCourse, is_evict}
 use Rattle.up_worker.specs.declared.course.Doing.{Doing}
 use Rattle.up_worker.specs.declared.course.Doing.TheVariants.{OneLine}
 use Rattle.up_worker.specs.declared.wish.Heard.{Heard}
@@ -64,13 +64,13 @@ abbrev pub needed : Reply → Option ℕ
 needed (replies.Needs count) = Some count
 needed _ = None
 
-abbrev pub asked : List Entered → Option ℕ
-asked [] = None
-asked (x ∷ before) = needed x.entry.reply
+abbrev pub asked_by_last : List Entered → Option ℕ
+asked_by_last [] = None
+asked_by_last (x ∷ before) = needed x.entry.reply
 
 pub record IsBare (before : List Entered) (call : Call) : Type 0 where
   pub quiet : front before ≡ []
-  pub unasked : asked before ≡ None
+  pub unasked : asked_by_last before ≡ None
   pub brings : call ≡ bare call
   pub no_supply : frames_before call ≡ 0
 
@@ -78,14 +78,14 @@ pub record IsGathered (j : Judge) (before : List Entered) (call : Call) : Type 0
   pub count : ℕ
   pub brought : Brought
   pub brings : call ≡ bringing brought call
-  pub cause : (asked (behind before) ≡ Some count) ⊎ (frames_before call ≡ count)
+  pub cause : (asked_by_last (behind before) ≡ Some count) ⊎ (frames_before call ≡ count)
   pub judged : j.gathers count brought (front before) (behind before)
 
 pub record IsLent (j : Judge) (before : List Entered) (call : Call) : Type 0 where
   pub count : ℕ
   pub brought : Brought
   pub quiet : front before ≡ []
-  pub asks : asked before ≡ Some count
+  pub asks : asked_by_last before ≡ Some count
   pub brings : call ≡ bringing brought call
   pub judged : j.lends brought before
 
@@ -98,9 +98,9 @@ FramesIn j [] = Unit {0}
 FramesIn j (x ∷ before) = FramesIn j before × (is_evict x.entry.call ≡ false → HasFrames j before x.entry.call)
 
 -- a gathering of so many brought so many, or a scan
-abbrev pub loose : Judge
-loose = record { gathers = λ count b made before. (b ≡ Frames count) ⊎ (b ≡ Scanned); lends = λ b before. (b ≡ Frames 1) ⊎ (b ≡ Scanned) }
+abbrev pub by_count : Judge
+by_count = record { gathers = λ count b made before. (b ≡ Frames count) ⊎ (b ≡ Scanned); lends = λ b before. (b ≡ Frames 1) ⊎ (b ≡ Scanned) }
 
 abbrev pub BringsGathered : Type 0
-BringsGathered = (who : ℕ) (kind : Kind) (objects : List ℕ) (events : List Event) → Lived who (unborn who kind objects) events
-    → Judged loose (unborn who kind objects) events → QuietLines events → FramesIn loose (tale events)
+BringsGathered = (who : ℕ) (kind : Kind) (objects : List ℕ) (events : List Event) → IsCourse who (unborn who kind objects) events
+    → Judged by_count (unborn who kind objects) events → QuietLines events → FramesIn by_count (tale events)

@@ -2,9 +2,13 @@ pub mod Calls
 pub mod Copies
 pub mod Wishes
 pub mod Placing
+pub mod Program
+pub mod Playing
+pub mod Turning
+pub mod InStep
 pub mod Acting
 pub mod Laws
-pub mod Lives
+pub mod Courses
 pub mod Rules
 pub mod Frames
 pub mod Viewing

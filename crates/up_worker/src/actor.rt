@@ -2,11 +2,13 @@ ghost use Rattle.std.specs.Prelude.{◌≡◌, ◌^◌, ◌<◌, [], true, false
 ghost use Rattle.up_script.specs.Objects.{is_evictor, is_worker};
 ghost use Rattle.up_worker.specs.Acting.{unborn, with_leave, first_wish, started, next_wish, next_acting, has, to_leave, is_plain};
 ghost use Rattle.up_worker.specs.Calls.{fits_line};
+ghost use Rattle.up_worker.specs.Playing.{to_serve};
 ghost use Rattle.up_worker.specs.Wishes.{answers};
 ghost use Rattle.up_worker.specs.declared.course.Doing.TheVariants.{OneLine, Leaving};
 
 use crate::copies::copy_action;
 use crate::course::Doing;
+use crate::line_calls::number_at;
 use crate::wish::{Heard, Wanted, Wish};
 use crate::wishing::{Place, begins, place_after, wish_after};
 use std::alloc::Global;
@@ -96,7 +98,6 @@ impl Actor {
     /// Begins what is done after the last line, and says the first wish. After want of memory the actor is as it was.
     pub fn begin_end(&mut self, alloc: Global) -> Result<Wish, Memory>
         requires free { self.old.wants ≡ Wanted.Nothing }
-        requires kind { is_worker self.old.kind ≡ false }
         ensures wish { IfOk result (λ wish. wish ≡ first_wish self.old (Leaving (to_leave self.old))) }
         ensures ok { OnOk result (self.new ≡ started self.old (Leaving (to_leave self.old))) }
         ensures err { OnErr result (self.new ≡ self.old) }
@@ -111,6 +112,17 @@ impl Actor {
         };
         self.wants = wish.wanted();
         Ok(wish)
+    }
+
+    // The object that a worker goes on to serve behind its last line, where it hasn't left it.
+    pub(crate) fn to_serve(&self, alloc: Global) -> Result<Option<u32>, Memory>
+        ensures { IfOk result (λ found. found ≡ to_serve self.now) }
+    {
+        if !is_worker(self.kind) {
+            return Ok(None);
+        }
+        let left = objects_to_leave(alloc, self.kind, &self.objects, &self.left)?;
+        Ok(number_at(&left, 0))
     }
 
     /// Hears what became of the last wish, and says the next one. After want of memory the actor is as it was, and what was to
@@ -180,6 +192,15 @@ fn is_evictor(kind: Kind) -> bool
 {
     match kind {
         Kind::Evictor => true,
+        _ => false,
+    }
+}
+
+fn is_worker(kind: Kind) -> bool
+    ensures { result ≡ is_worker kind }
+{
+    match kind {
+        Kind::Worker => true,
         _ => false,
     }
 }

@@ -1,7 +1,7 @@
 //! What the definition of an actor's wishes says.
 
 ghost use Rattle.up_worker.specs.Laws.{MakesUnderWay, GoesOn, AsksAgain, Retries, GathersAfterNeeds, EndsRefused, LeavesOnce};
-ghost use Rattle.up_worker.specs.Lives.{IsTold};
+ghost use Rattle.up_worker.specs.Courses.{IsTold};
 ghost use Rattle.up_worker.specs.Frames.{BringsGathered};
 ghost use Rattle.up_worker.specs.Rules.{KeepsRules, LeavesNothing};
 
@@ -38,13 +38,13 @@ pub fn no_object_is_left_twice()
 
 /// Where an actor's line is done, the entries that were made for it have settled the calls of its lines, one after the other, and no others: each
 /// line's calls in order, an access up to its first refusal. Lines that evict are told otherwise.
-pub fn a_life_is_told_by_its_entries()
+pub fn a_course_is_told_by_its_entries()
     ensures { IsTold }
 {}
 
 /// While a call is pending, an actor's next entry that is no evict is for that call, and while it holds a ticket it is the retry of it. Where a line is
 /// done, nothing is pending and no ticket is held.
-pub fn a_life_keeps_the_rules()
+pub fn a_course_keeps_the_rules()
     ensures rules { KeepsRules }
     ensures end { LeavesNothing }
 {}

@@ -1,4 +1,4 @@
-use Rattle.up_worker.proofs.Framing.{brings_gathered}
+use Rattle.up_worker.proofs.BroughtFrames.{brings_gathered}
 use Rattle.up_worker.proofs.laws.a_call_brings_what_was_gathered.Goals as goal
 
 pub returns : goal.returns

@@ -1,4 +1,4 @@
-use Rattle.up_worker.proofs.Wished.{ends_refused}
+use Rattle.up_worker.proofs.AfterWishes.{ends_refused}
 use Rattle.up_worker.proofs.laws.a_refused_access_ends.Goals as goal
 
 pub returns : goal.returns

@@ -1,4 +1,4 @@
-use Rattle.up_worker.proofs.Wished.{goes_on, asks_again}
+use Rattle.up_worker.proofs.AfterWishes.{goes_on, asks_again}
 use Rattle.up_worker.proofs.laws.a_settled_call_is_not_asked_again.Goals as goal
 
 pub returns-clause-next : goal.returns-clause-next

@@ -1,4 +1,4 @@
-use Rattle.up_worker.proofs.Wished.{gathers_after_needs}
+use Rattle.up_worker.proofs.AfterWishes.{gathers_after_needs}
 use Rattle.up_worker.proofs.laws.frames_are_gathered_for_a_need.Goals as goal
 
 pub returns : goal.returns

@@ -1,4 +1,4 @@
-use Rattle.up_worker.proofs.Wished.{leaves_once}
+use Rattle.up_worker.proofs.AfterWishes.{leaves_once}
 use Rattle.up_worker.proofs.laws.no_object_is_left_twice.Goals as goal
 
 pub returns : goal.returns

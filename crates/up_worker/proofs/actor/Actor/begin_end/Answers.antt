@@ -1,5 +1,5 @@
 use Rattle.up_worker.specs.Viewing.{acting_of}
-use Rattle.up_worker.proofs.Keeping.{sound_started, wants_started, end_wish, end_started, fits_at_end}
+use Rattle.up_worker.proofs.AnswersKeep.{sound_started, wants_started, end_wish, end_started, fits_at_end}
 use Rattle.up_worker.specs.declared.course.Doing.TheVariants.{Leaving}
 use Rattle.up_worker.proofs.actor.Actor.begin_end.Goals as goal
 

@@ -2,7 +2,7 @@ use Rattle.std.proofs.Common.{◌≡◌, true, sym, subst}
 use Rattle.up_worker.specs.Acting.{Acting, Sound, next_wish}
 use Rattle.up_worker.specs.Viewing.{acting_of}
 use Rattle.up_worker.specs.Wishes.{answers}
-use Rattle.up_worker.proofs.Keeping.{keeps_sound, wish_is, next_is}
+use Rattle.up_worker.proofs.AnswersKeep.{keeps_sound, wish_is, next_is}
 use Rattle.up_worker.proofs.actor.Actor.next.Goals as goal
 
 pub invariant_of-self : goal.invariant_of-self

@@ -1,4 +1,4 @@
--- The calls of a life bring what its gatherings brought, for every judge of gatherings.
+-- The calls of a course bring what its gatherings brought, for every judge of gatherings.
 use Rattle.std.proofs.Common.{◌≡◌, ℕ, ◌==◌, ◌⊎◌, ◌++◌, Bool, true, false, cond, is_some, Option, Some, None, List, [], ◌∷◌, refl, sym, ap, ◌∙◌, subst, inl, inr, arith, ◌&&◌}
 use Rattle.std.proofs.lemmas.Bool.Decides.{nat_tests}
 use Rattle.up_model.specs.declared.entry.Brought.{Brought}
@@ -14,12 +14,12 @@ use Rattle.up_script.specs.declared.script.Kind.{Kind}
 use Rattle.up_worker.specs.Acting.{Acting, unborn, under_way, hears, first_wish, started, next_wish, next_acting}
 use Rattle.up_worker.specs.Calls.{bringing, borrows, frames_before, is_access}
 use Rattle.up_worker.specs.Wishes.{attempt, settles, is_refused, ticket_after, act_on, makes, last_of, last_wish, begins_call, unsettled}
-use Rattle.up_worker.specs.Lives.{is_told, Entered, Event, Begins, Hears, leads, tale, lines, is_evict, Lived, Carries, MakesOne, ResizesOne, OwnEvicts, GathersSome, DoneWithout}
-use Rattle.up_worker.specs.Frames.{Judge, JudgedWish, Judged, is_quiet, QuietLines, front, behind, needed, asked, HasFrames, FramesIn, loose, BringsGathered}
-use Rattle.up_worker.proofs.Saying.{bringing_again}
-use Rattle.up_worker.proofs.Telling.{State, state_start, state_begins, state_hears, no_ticket}
-use Rattle.up_worker.proofs.Wished.{asks_again}
-use Rattle.up_worker.proofs.Ruling.{ActFacts, act_facts, after_unsettled}
+use Rattle.up_worker.specs.Courses.{is_told, Entered, Event, Begins, Hears, leads, tale, lines, is_evict, IsCourse, Carries, MakesOne, ResizesOne, OwnEvicts, GathersSome, DoneWithout}
+use Rattle.up_worker.specs.Frames.{Judge, JudgedWish, Judged, is_quiet, QuietLines, front, behind, needed, asked_by_last, HasFrames, FramesIn, by_count, BringsGathered}
+use Rattle.up_worker.proofs.StandingWishes.{bringing_again}
+use Rattle.up_worker.proofs.CourseTold.{State, state_start, state_begins, state_hears, no_ticket}
+use Rattle.up_worker.proofs.AfterWishes.{asks_again}
+use Rattle.up_worker.proofs.CourseRules.{ActFacts, act_facts, after_unsettled}
 use Rattle.up_worker.specs.declared.course.Aim.{Aim}
 use Rattle.up_worker.specs.declared.course.Doing.{Doing}
 use Rattle.up_worker.specs.declared.course.Doing.TheVariants.{Idle, OneLine, Leaving}
@@ -28,10 +28,10 @@ use Rattle.up_worker.specs.declared.wish.Heard.TheVariants as heard
 use Rattle.up_worker.specs.declared.wish.Wish.{Wish}
 use Rattle.up_worker.specs.declared.wish.Wish.TheVariants as wishes
 
--- no evicts stand last, and nothing is asked for
+-- no evicts stand last, and nothing is asked_by_last for
 record Quiet (t : List Entered) : Type 0 where
   none : front t ≡ []
-  unasked : asked t ≡ None
+  unasked : asked_by_last t ≡ None
 
 -- the aim for which frames are gathered before it is made at all
 record Supplies (aim : Option Aim) (ticket : Option ℕ) (count : ℕ) : Type 0 where
@@ -44,8 +44,8 @@ record Supplies (aim : Option Aim) (ticket : Option ℕ) (count : ℕ) : Type 0 
 abbrev Ready : Judge → Option Aim → Option ℕ → List Entered → Wish → Type 0
 Ready j aim ticket t (wishes.Act object call) = HasFrames j t call
 Ready j aim ticket t (wishes.Resize object pages) = HasFrames j t (calls.Resize pages)
-Ready j aim ticket t (wishes.Gather count) = (is_some aim ≡ true) × (front t ≡ []) × ((asked t ≡ Some count) ⊎ Supplies aim ticket count)
-Ready j aim ticket t wishes.Loan = (is_some aim ≡ true) × (front t ≡ []) × ((count : ℕ) × (asked t ≡ Some count))
+Ready j aim ticket t (wishes.Gather count) = (is_some aim ≡ true) × (front t ≡ []) × ((asked_by_last t ≡ Some count) ⊎ Supplies aim ticket count)
+Ready j aim ticket t wishes.Loan = (is_some aim ≡ true) × (front t ≡ []) × ((count : ℕ) × (asked_by_last t ≡ Some count))
 Ready j aim ticket t (wishes.Relieve frames) = ⊥
 Ready j aim ticket t wishes.Watch = ⊥
 Ready j aim ticket t (wishes.Site object step) = Unit {0}
@@ -122,7 +122,7 @@ behind_is who [] t own none = behind_same t none
 behind_is who (x ∷ made) t own none = let evict = own.1 in rw evict (behind_is who made t own.3 none)
 
 gathered : (j : Judge) (who : ℕ) (one : Aim) (ticket : Option ℕ) (t made : List Entered) (count : ℕ) (b : Brought) → OwnEvicts who made → front t ≡ []
-    → ((asked t ≡ Some count) ⊎ Supplies (Some one) ticket count) → j.gathers count b made t → HasFrames j (made ++ t) (bringing b (attempt ticket one.call))
+    → ((asked_by_last t ≡ Some count) ⊎ Supplies (Some one) ticket count) → j.gathers count b made t → HasFrames j (made ++ t) (bringing b (attempt ticket one.call))
 gathered j who one ticket t made count b own none cause judged = inr (inl (record {
   count = count;
   brought = b;
@@ -132,9 +132,9 @@ gathered j who one ticket t made count b own none cause judged = inr (inl (recor
       (subst (λ xs. j.gathers count b made xs) (sym (behind_is who made t own none)) judged);
 }))
   where
-    of_cause : ((asked t ≡ Some count) ⊎ Supplies (Some one) ticket count)
-        → (asked (behind (made ++ t)) ≡ Some count) ⊎ (frames_before (bringing b (attempt ticket one.call)) ≡ count)
-    of_cause (inl needs) = inl (ap asked (behind_is who made t own none) ∙ needs)
+    of_cause : ((asked_by_last t ≡ Some count) ⊎ Supplies (Some one) ticket count)
+        → (asked_by_last (behind (made ++ t)) ≡ Some count) ⊎ (frames_before (bringing b (attempt ticket one.call)) ≡ count)
+    of_cause (inl needs) = inl (ap asked_by_last (behind_is who made t own none) ∙ needs)
     of_cause (inr supply) = inr
         (ap (λ k. frames_before (bringing b (attempt k one.call))) supply.unheld
         ∙ (same_before b one.call ∙ (ap (λ (aim : Aim). frames_before aim.call) (let same : one ≡ supply.one = (let e : Some one ≡ Some supply.one = supply.is in cc) in same) ∙ supply.takes)))
@@ -165,12 +165,12 @@ ready_settled : (stops : Bool) (j : Judge) (aim : Option Aim) (t : List Entered)
 ready_settled true j aim t doing calm quiet = quiet
 ready_settled false j aim t doing calm quiet = ready_begins j aim t doing calm quiet
 
-ready_loan : (test : Bool) (j : Judge) (one : Aim) (ticket : Option ℕ) (t : List Entered) (count : ℕ) → front t ≡ [] → asked t ≡ Some count
+ready_loan : (test : Bool) (j : Judge) (one : Aim) (ticket : Option ℕ) (t : List Entered) (count : ℕ) → front t ≡ [] → asked_by_last t ≡ Some count
     → Ready j (Some one) ticket t (cond test wishes.Loan (wishes.Gather count))
 ready_loan true j one ticket t count none asks = (refl, none, (count, asks))
 ready_loan false j one ticket t count none asks = (refl, none, inl asks)
 
-ready_unsettled : (j : Judge) (one : Aim) (ticket : Option ℕ) (t : List Entered) (reply : Reply) → front t ≡ [] → asked t ≡ needed reply
+ready_unsettled : (j : Judge) (one : Aim) (ticket : Option ℕ) (t : List Entered) (reply : Reply) → front t ≡ [] → asked_by_last t ≡ needed reply
     → Ready j (Some one) ticket t (unsettled (Some one) reply)
 ready_unsettled j one ticket t (replies.Needs count) none asks = ready_loan (borrows one.call) j one ticket t count none asks
 ready_unsettled j one ticket t _ none asks = record { none = none; unasked = asks }
@@ -334,7 +334,7 @@ framed_hears j who kind objects a wishes.Watch all t answer made r does judged =
 framed_hears j who kind objects a (wishes.Site object step) all t answer made r does judged = absurd does
 framed_hears j who kind objects a wishes.LineEnd all t answer made r does judged = absurd does
 
-framed_of : (j : Judge) (who : ℕ) (kind : Kind) (objects : List ℕ) (events : List Event) → Lived who (unborn who kind objects) events
+framed_of : (j : Judge) (who : ℕ) (kind : Kind) (objects : List ℕ) (events : List Event) → IsCourse who (unborn who kind objects) events
     → Judged j (unborn who kind objects) events → QuietLines events
     → Framed j who kind objects (leads (unborn who kind objects) events).acting (leads (unborn who kind objects) events).said (lines events) (tale events)
 framed_of j who kind objects [] lived judged calm = framed_start j who kind objects
@@ -344,9 +344,9 @@ framed_of j who kind objects (Hears answer made ∷ before) lived judged calm =
     framed_hears j who kind objects _ _ (lines before) (tale before) answer made (framed_of j who kind objects before lived.0 judged.0 calm) lived.1 judged.1
 
 -- for every judge
-pub frames_in : (j : Judge) (who : ℕ) (kind : Kind) (objects : List ℕ) (events : List Event) → Lived who (unborn who kind objects) events
+pub frames_in : (j : Judge) (who : ℕ) (kind : Kind) (objects : List ℕ) (events : List Event) → IsCourse who (unborn who kind objects) events
     → Judged j (unborn who kind objects) events → QuietLines events → FramesIn j (tale events)
 frames_in j who kind objects events lived judged calm = (framed_of j who kind objects events lived judged calm).frames
 
 pub brings_gathered : BringsGathered
-brings_gathered who kind objects events lived judged calm = frames_in loose who kind objects events lived judged calm
+brings_gathered who kind objects events lived judged calm = frames_in by_count who kind objects events lived judged calm

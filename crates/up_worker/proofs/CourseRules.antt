@@ -1,4 +1,4 @@
--- A life keeps the rules on its entries.
+-- A course keeps the rules on its entries.
 use Rattle.std.proofs.Common.{◌≡◌, ℕ, ◌⊎◌, ◌++◌, Bool, true, false, cond, is_some, Option, Some, None, List, [], ◌∷◌, length, refl, sym, ap, ◌∙◌, subst, inl, inr}
 use Rattle.up_model.specs.declared.entry.Brought.{Brought}
 use Rattle.up_model.specs.declared.entry.Brought.TheVariants.{Nothing}
@@ -12,11 +12,11 @@ use Rattle.up_script.specs.declared.script.Kind.{Kind}
 use Rattle.up_worker.specs.Acting.{Acting, unborn, under_way, first_wish, started, next_wish, next_acting}
 use Rattle.up_worker.specs.Calls.{bringing, borrows}
 use Rattle.up_worker.specs.Wishes.{attempt, settles, ticket_after, act_on, makes, unsettled}
-use Rattle.up_worker.specs.Lives.{is_evict, Entered, Event, Begins, Hears, leads, tale, lines, Lived, Carries, MakesOne, ResizesOne, OwnEvicts, GathersSome, is_told, attempted, attempt_at, aim_in}
-use Rattle.up_worker.specs.Rules.{pending, Held, held_after, held, Keeps, Rules, KeepsRules, LeavesNothing}
-use Rattle.up_worker.proofs.Saying.{good, is_for}
-use Rattle.up_worker.proofs.Telling.{State, state_start, state_begins, state_hears, none_own}
-use Rattle.up_worker.proofs.Wished.{asks_again}
+use Rattle.up_worker.specs.Courses.{is_evict, Entered, Event, Begins, Hears, leads, tale, lines, IsCourse, Carries, MakesOne, ResizesOne, OwnEvicts, GathersSome, is_told, attempted, attempt_at, aim_in}
+use Rattle.up_worker.specs.Rules.{pending, HeldTicket, held_after, held, Keeps, Rules, KeepsRules, LeavesNothing}
+use Rattle.up_worker.proofs.StandingWishes.{good, is_for}
+use Rattle.up_worker.proofs.CourseTold.{State, state_start, state_begins, state_hears, none_own}
+use Rattle.up_worker.proofs.AfterWishes.{asks_again}
 use Rattle.up_worker.specs.declared.course.Aim.{Aim}
 use Rattle.up_worker.specs.declared.course.Doing.{Doing}
 use Rattle.up_worker.specs.declared.course.Doing.TheVariants.{Idle}
@@ -25,13 +25,13 @@ use Rattle.up_worker.specs.declared.wish.Heard.TheVariants as heard
 use Rattle.up_worker.specs.declared.wish.Wish.{Wish}
 use Rattle.up_worker.specs.declared.wish.Wish.TheVariants as wishes
 
--- what stands beside the state of a life
+-- what stands beside the state of a course
 record Ruled (who : ℕ) (kind : Kind) (objects : List ℕ) (a : Acting) (said : Wish) (all : List Doing) (t : List Entered) : Type 0 where
   state : State who kind objects a said all t
   rules : Rules t
   pends : (pending t ≡ None) ⊎ ((pending t ≡ under_way a) × (said ≡ wishes.LineEnd → ⊥))
-  links : (h : Held) → held t ≡ Some h → is_some (pending t) ≡ true
-  holds : (h : Held) → held t ≡ Some h → (a.ticket ≡ Some h.ticket) × ((aim : Aim) → under_way a ≡ Some aim → aim.object ≡ h.object)
+  links : (h : HeldTicket) → held t ≡ Some h → is_some (pending t) ≡ true
+  holds : (h : HeldTicket) → held t ≡ Some h → (a.ticket ≡ Some h.ticket) × ((aim : Aim) → under_way a ≡ Some aim → aim.object ≡ h.object)
 
 ruled_start : (who : ℕ) (kind : Kind) (objects : List ℕ) → Ruled who kind objects (unborn who kind objects) wishes.LineEnd (Idle ∷ []) []
 ruled_start who kind objects = record {
@@ -48,7 +48,7 @@ none_pending : (t : List Entered) (a : Acting) (said : Wish) → said ≡ wishes
 none_pending t a said is (inl none) = none
 none_pending t a said is (inr goes) = absurd (goes.1 is)
 
-none_held : (h : Option Held) (p : Option Aim) → p ≡ None → ((one : Held) → h ≡ Some one → is_some p ≡ true) → h ≡ None
+none_held : (h : Option HeldTicket) (p : Option Aim) → p ≡ None → ((one : HeldTicket) → h ≡ Some one → is_some p ≡ true) → h ≡ None
 none_held None p none links = refl
 none_held (Some one) None none links = let some = links one refl in absurd cc
 none_held (Some one) (Some aim) none links = absurd cc
@@ -190,7 +190,7 @@ pending_is x t evict = rw evict refl
 held_is : (x : Entered) (t : List Entered) → is_evict x.entry.call ≡ false → held (x ∷ t) ≡ held_after x.object x.entry.reply (held t)
 held_is x t evict = rw evict refl
 
-held_settled : (object : ℕ) (reply : Reply) (before : Option Held) → settles reply ≡ true → held_after object reply before ≡ None
+held_settled : (object : ℕ) (reply : Reply) (before : Option HeldTicket) → settles reply ≡ true → held_after object reply before ≡ None
 held_settled object (replies.Needs m) before is = absurd cc
 held_settled object (replies.Blocked u) before is = absurd cc
 held_settled object replies.Waiting before is = absurd cc
@@ -218,27 +218,27 @@ pends_after false a t x unmet f =
     )
 
 links_after : (done : Bool) (a : Acting) (t : List Entered) (x : Entered) → settles x.entry.reply ≡ done → ActFacts a t x
-    → (h : Held) → held (x ∷ t) ≡ Some h → is_some (pending (x ∷ t)) ≡ true
+    → (h : HeldTicket) → held (x ∷ t) ≡ Some h → is_some (pending (x ∷ t)) ≡ true
 links_after true a t x settled f h is =
     absurd (let wrong : None ≡ Some h = sym (held_settled x.object x.entry.reply (held t) settled) ∙ (sym (held_is x t f.evict) ∙ is) in cc)
 links_after false a t x unmet f h is = ap is_some (pending_is x t f.evict ∙ (ap (λ s. cond s None (aim_in t x)) unmet ∙ f.aim))
 
-abbrev held_on : ℕ → ℕ → Held
+abbrev held_on : ℕ → ℕ → HeldTicket
 held_on object ticket = record { object = object; ticket = ticket }
 
-holds_more : (reply : Reply) (ticket : Option ℕ) (object place : ℕ) (before : Option Held) (h : Held) → settles reply ≡ false → object ≡ place
+holds_more : (reply : Reply) (ticket : Option ℕ) (object place : ℕ) (before : Option HeldTicket) (h : HeldTicket) → settles reply ≡ false → object ≡ place
     → (before ≡ Some h → (ticket ≡ Some h.ticket) × (place ≡ h.object)) → held_after object reply before ≡ Some h
     → (ticket_after reply ticket ≡ Some h.ticket) × (place ≡ h.object)
 holds_more (replies.Needs m) ticket object place before h unmet on earlier is = earlier is
 holds_more replies.Waiting ticket object place before h unmet on earlier is = earlier is
 holds_more (replies.Blocked u) ticket object place before h unmet on earlier is =
     let same : held_on object u ≡ h = cc in
-    (ap (λ (k : Held). Some k.ticket) same, sym on ∙ ap (λ (k : Held). k.object) same)
+    (ap (λ (k : HeldTicket). Some k.ticket) same, sym on ∙ ap (λ (k : HeldTicket). k.object) same)
 holds_more _ ticket object place before h unmet on earlier is = absurd cc
 
 holds_after : (done : Bool) (a : Acting) (t : List Entered) (x : Entered) → settles x.entry.reply ≡ done → ActFacts a t x
-    → ((h : Held) → held t ≡ Some h → (a.ticket ≡ Some h.ticket) × ((aim : Aim) → under_way a ≡ Some aim → aim.object ≡ h.object))
-    → (h : Held) → held (x ∷ t) ≡ Some h
+    → ((h : HeldTicket) → held t ≡ Some h → (a.ticket ≡ Some h.ticket) × ((aim : Aim) → under_way a ≡ Some aim → aim.object ≡ h.object))
+    → (h : HeldTicket) → held (x ∷ t) ≡ Some h
     → ((next_acting a (heard.Replied x.entry.reply)).ticket ≡ Some h.ticket)
     × ((aim : Aim) → under_way (next_acting a (heard.Replied x.entry.reply)) ≡ Some aim → aim.object ≡ h.object)
 holds_after true a t x settled f holds h is =
@@ -330,7 +330,7 @@ ruled_hears who kind objects a wishes.Watch all t answer made r does =
 ruled_hears who kind objects a (wishes.Site object step) all t answer made r does = absurd does
 ruled_hears who kind objects a wishes.LineEnd all t answer made r does = absurd does
 
-ruled_of : (who : ℕ) (kind : Kind) (objects : List ℕ) (events : List Event) → Lived who (unborn who kind objects) events
+ruled_of : (who : ℕ) (kind : Kind) (objects : List ℕ) (events : List Event) → IsCourse who (unborn who kind objects) events
     → Ruled who kind objects (leads (unborn who kind objects) events).acting (leads (unborn who kind objects) events).said (lines events) (tale events)
 ruled_of who kind objects [] lived = ruled_start who kind objects
 ruled_of who kind objects (Begins doing ∷ before) lived =

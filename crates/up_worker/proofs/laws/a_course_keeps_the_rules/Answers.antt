@@ -1,5 +1,5 @@
-use Rattle.up_worker.proofs.Ruling.{keeps_rules, leaves_nothing}
-use Rattle.up_worker.proofs.laws.a_life_keeps_the_rules.Goals as goal
+use Rattle.up_worker.proofs.CourseRules.{keeps_rules, leaves_nothing}
+use Rattle.up_worker.proofs.laws.a_course_keeps_the_rules.Goals as goal
 
 pub returns-clause-rules : goal.returns-clause-rules
 returns-clause-rules c = keeps_rules

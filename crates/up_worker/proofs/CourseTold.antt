@@ -1,4 +1,4 @@
--- A life is told by its entries: what its events keep, one after the other.
+-- A course is told by its entries: what its events keep, one after the other.
 use Rattle.std.proofs.Common.{◌≡◌, ℕ, suc, ◌+◌, ◌==◌, ◌&&◌, ◌||◌, ◌++◌, not, Bool, true, false, cond, is_some, Option, Some, None, List, [], ◌∷◌, length, refl, sym, ap, ◌∙◌, subst, arith, inl, inr, slice_get}
 use Rattle.std.proofs.lemmas.Bool.Decides.{nat_tests}
 use Rattle.up_model.specs.Attempts.{blocks}
@@ -12,8 +12,8 @@ use Rattle.up_script.specs.declared.script.Kind.{Kind}
 use Rattle.up_worker.specs.Acting.{Acting, unborn, left_after, first_wish, started, next_wish, next_acting}
 use Rattle.up_worker.specs.Calls.{calls_of, borrows, is_access}
 use Rattle.up_worker.specs.Wishes.{wants_after, settles, is_refused, ticket_after, makes, begins_call, parks, unsettled}
-use Rattle.up_worker.specs.Lives.{is_evict, gives_pages, Entered, Event, Begins, Hears, leads, tale, lines, Lived, Carries, MakesOne, ResizesOne, OwnEvicts, GathersSome, is_told, is_waiting, is_retry, attempted, attempt_at, aim_in, is_aid, Main, mains, any_refused, Follows, IsWhole, GivenBy, IsTold}
-use Rattle.up_worker.proofs.Saying.{good, access_keeps, Made, Free, Says, says_begins, says_makes, says_unsettled, says_done, says_goes_on, IsFor, is_for}
+use Rattle.up_worker.specs.Courses.{is_evict, gives_pages, Entered, Event, Begins, Hears, leads, tale, lines, IsCourse, Carries, MakesOne, ResizesOne, OwnEvicts, GathersSome, is_told, is_waiting, is_retry, attempted, attempt_at, aim_in, is_aid, Main, mains, any_refused, Follows, IsWhole, GivenBy, IsTold}
+use Rattle.up_worker.proofs.StandingWishes.{good, access_keeps, Made, Free, Says, says_begins, says_makes, says_unsettled, says_done, says_goes_on, IsFor, is_for}
 use Rattle.up_worker.specs.declared.course.Aim.{Aim}
 use Rattle.up_worker.specs.declared.course.Doing.{Doing}
 use Rattle.up_worker.specs.declared.course.Doing.TheVariants.{Idle}
@@ -411,7 +411,7 @@ state_hears who kind objects a said all t answer made s does =
     (wish_step who kind objects s.left s.doing s.ticket s.wants s.now s.old s.earlier all t said answer made
     s.lines_are s.mains_are s.told s.follows s.given s.held s.says does)
 
-state_of : (who : ℕ) (kind : Kind) (objects : List ℕ) (events : List Event) → Lived who (unborn who kind objects) events
+state_of : (who : ℕ) (kind : Kind) (objects : List ℕ) (events : List Event) → IsCourse who (unborn who kind objects) events
     → State who kind objects (leads (unborn who kind objects) events).acting (leads (unborn who kind objects) events).said (lines events) (tale events)
 state_of who kind objects [] lived = state_start who kind objects
 state_of who kind objects (Begins doing ∷ before) lived =

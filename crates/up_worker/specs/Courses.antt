@@ -1,4 +1,4 @@
--- An actor's life: the lines that it began and the answers that it heard, each with the entries that were made for it; and what is said of these
+-- An actor's course: the lines that it began and the answers that it heard, each with the entries that were made for it; and what is said of these
 -- entries by looking back. Events, entries and lines stand newest first.
 use Rattle.std.specs.Prelude.{◌≡◌, ℕ, ◌==◌, ◌&&◌, ◌||◌, ◌⊎◌, ◌++◌, not, Bool, true, false, cond, is_some, Option, Some, None, List, [], ◌∷◌, length, slice_get}
 use Rattle.up_model.specs.Attempts.{blocks}
@@ -139,10 +139,10 @@ is_told (OneLine action) = is_told_line action
 is_told _ = true
 
 -- each event follows on what was said: a line is begun where the one before it is done, and an answer is to the last wish
-abbrev pub Lived : ℕ → Acting → List Event → Type 0
-Lived who start [] = Unit {0}
-Lived who start (Begins doing ∷ before) = Lived who start before × ((leads start before).said ≡ wishes.LineEnd) × (is_told doing ≡ true)
-Lived who start (Hears answer made ∷ before) = Lived who start before × Carries who (leads start before).said answer made
+abbrev pub IsCourse : ℕ → Acting → List Event → Type 0
+IsCourse who start [] = Unit {0}
+IsCourse who start (Begins doing ∷ before) = IsCourse who start before × ((leads start before).said ≡ wishes.LineEnd) × (is_told doing ≡ true)
+IsCourse who start (Hears answer made ∷ before) = IsCourse who start before × Carries who (leads start before).said answer made
 
 -- what a call attempts, where `given` says what is under a ticket: a retry attempts what waits under its ticket
 abbrev pub attempted : (ℕ → ℕ → Option Aim) → ℕ → Call → Option Aim
@@ -198,5 +198,5 @@ GivenBy kind objects (doing ∷ earlier) ms =
 
 -- where an actor's line is done, its entries have settled the calls of its lines, one after the other, and no others
 abbrev pub IsTold : Type 0
-IsTold = (who : ℕ) (kind : Kind) (objects : List ℕ) (events : List Event) → Lived who (unborn who kind objects) events
+IsTold = (who : ℕ) (kind : Kind) (objects : List ℕ) (events : List Event) → IsCourse who (unborn who kind objects) events
     → (leads (unborn who kind objects) events).said ≡ wishes.LineEnd → GivenBy kind objects (lines events) (mains (tale events))

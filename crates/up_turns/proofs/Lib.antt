@@ -1,0 +1,5 @@
+pub mod Turns
+pub mod Syncs
+pub mod Leading
+pub mod Suiting
+pub mod SmallTurn
