@@ -1,10 +1,10 @@
--- Blocks of happenings of actors that are no evictors, and where these actors stand between lines.
+-- Blocks of events of actors that are no evictors, and where these actors stand between lines.
 use Rattle.std.proofs.Common.{◌≡◌, ℕ, ◌==◌, ◌++◌, Bool, true, false, List, [], ◌∷◌, refl, sym, ap, ◌∙◌, subst}
 use Rattle.up_script.specs.declared.script.Line.{Line}
 use Rattle.up_worker.specs.Acting.{Acting}
 use Rattle.up_worker.specs.Calls.{calls_of, is_access}
 use Rattle.up_worker.specs.Frames.{Judge}
-use Rattle.up_worker.specs.Lives.{Entered, Event, Begins, Hears, lines as begun}
+use Rattle.up_worker.specs.Courses.{Entered, Event, Begins, Hears, lines as begun}
 use Rattle.up_worker.specs.Wishes.{last_wish}
 use Rattle.up_worker.specs.declared.course.Doing.{Doing}
 use Rattle.up_worker.specs.declared.wish.Wish.{Wish}
@@ -12,10 +12,10 @@ use Rattle.up_worker.specs.declared.wish.Wish.TheVariants as wishes
 use Rattle.up_steps.specs.Asked.{without_evicts, AreNext}
 use Rattle.up_steps.specs.Steps.{Setting, Moment, first_moment, judge_at, IsFar}
 use Rattle.up_steps.specs.Told.{own, last_parks, parked, given_to, kind_at, objects_at, Told}
-use Rattle.up_steps.specs.World.{Happening, entries, events_of, actor_at, said_by, made_by, moment_at, moment_in, Follows, OneThread, is_park, rests, is_parked, GoesOn, AllAnswers, is_answer}
-use Rattle.up_steps.proofs.Going.{Says, Going}
-use Rattle.up_steps.proofs.Owning.{events_mine, events_other, kind_stays, objects_stay}
-use Rattle.up_steps.proofs.Plainly.{AllPlain, out_after, Plainly, told_more, plainly_more, plain_before, moment_stays}
+use Rattle.up_steps.specs.OneThread.{ActorEvent, entries, events_of, actor_at, said_by, made_by, moment_at, moment_in, Follows, OneThread, is_park, rests, is_parked, GoesOn, AllAnswers, is_answer}
+use Rattle.up_steps.proofs.LineEntries.{Says, Going}
+use Rattle.up_steps.proofs.OwnEntries.{events_mine, events_other, kind_stays, objects_stay}
+use Rattle.up_steps.proofs.PlainBlocks.{AllPlain, out_after, Plainly, told_more, plainly_more, plain_before, moment_stays}
 
 -- where an actor rests after its events, t being its entries
 pub record Rested (s : Setting) (who : ℕ) (events : List Event) (t : List Entered) : Type 0 where
@@ -101,11 +101,11 @@ rested_parked s who events t r =
     says_parked (judge_at s (first_moment s)) [] (out_after s who events).acting r.now [] t (out_after s who events).said r.rests r.going.says
 
 -- a block of events
-pub record Ended (s : Setting) (m : Moment) (who : ℕ) (start : List Entered) (w : List Happening) : Type 0 where
+pub record Ended (s : Setting) (m : Moment) (who : ℕ) (start : List Entered) (w : List ActorEvent) : Type 0 where
   pub plainly : Plainly s m who start (events_of who w) (entries w)
   pub moment : moment_in s w ≡ m
 
-ended_more : (s : Setting) (m : Moment) (who : ℕ) (start : List Entered) (d : Happening) (w : List Happening) → Ended s m who start w → d.who ≡ who
+ended_more : (s : Setting) (m : Moment) (who : ℕ) (start : List Entered) (d : ActorEvent) (w : List ActorEvent) → Ended s m who start w → d.who ≡ who
     → is_parked s who w ≡ false → Follows s (moment_in s w) d.who (said_by s d.who w) d.event (entries w) → AllPlain (begun (d.event ∷ events_of who w))
     → Ended s m who start (d ∷ w)
 ended_more s m who start d w e by unless follows plain =
@@ -120,7 +120,7 @@ ended_more s m who start d w e by unless follows plain =
           ∙ moment_stays s m who start (events_of who w) (entries w) d.event e.plainly);
     }
 
-pub goes_plainly : (s : Setting) (m : Moment) (who : ℕ) (start : List Entered) (more base : List Happening) → Ended s m who start base
+pub goes_plainly : (s : Setting) (m : Moment) (who : ℕ) (start : List Entered) (more base : List ActorEvent) → Ended s m who start base
     → OneThread s (more ++ base) → GoesOn s who more base → AllPlain (begun (events_of who (more ++ base))) → Ended s m who start (more ++ base)
 goes_plainly s m who start [] base e one goes plain = e
 goes_plainly s m who start (d ∷ more) base e one goes plain =
@@ -131,7 +131,7 @@ goes_plainly s m who start (d ∷ more) base e one goes plain =
     goes.1 goes.2 one.1 now
 
 -- of other actors nothing happens
-pub others_stay : (s : Setting) (who other : ℕ) (more base : List Happening) → GoesOn s who more base → (who == other) ≡ false
+pub others_stay : (s : Setting) (who other : ℕ) (more base : List ActorEvent) → GoesOn s who more base → (who == other) ≡ false
     → events_of other (more ++ base) ≡ events_of other base
 others_stay s who other [] base goes differs = refl
 others_stay s who other (d ∷ more) base goes differs =
@@ -142,14 +142,14 @@ answer_begins_none : (event : Event) (events : List Event) → is_answer event �
 answer_begins_none (Begins doing) events is = absurd cc
 answer_begins_none (Hears answer made) events is = refl
 
-pub answers_begin_none : (s : Setting) (who : ℕ) (more base : List Happening) → GoesOn s who more base → AllAnswers more
+pub answers_begin_none : (s : Setting) (who : ℕ) (more base : List ActorEvent) → GoesOn s who more base → AllAnswers more
     → begun (events_of who (more ++ base)) ≡ begun (events_of who base)
 answers_begin_none s who [] base goes answers = refl
 answers_begin_none s who (d ∷ more) base goes answers =
     ap begun (events_mine who d (more ++ base) goes.1)
     ∙ (answer_begins_none d.event (events_of who (more ++ base)) answers.0 ∙ answers_begin_none s who more base goes.0 answers.1)
 
-pub one_before : (s : Setting) (more base : List Happening) → OneThread s (more ++ base) → OneThread s base
+pub one_before : (s : Setting) (more base : List ActorEvent) → OneThread s (more ++ base) → OneThread s base
 one_before s [] base one = one
 one_before s (d ∷ more) base one = one_before s more base one.0
 

@@ -1,16 +1,16 @@
-mod Aligning
-mod Answering
+mod EntriesByLines
+mod EvictorAnswers
 mod Blocks
-mod Calling
-mod Chaining
-mod Deciding
-mod Evicting
-mod Going
-mod Legally
-mod Lining
-mod Living
-mod Owning
-mod Plainly
-mod Relieving
-mod Settling
-mod Small
+pub mod CallsAndEvicts
+mod GrowingLists
+mod OneListOfSteps
+mod EvictorBlocks
+pub mod LineEntries
+mod LegalReplies
+mod LineBlocks
+mod ThreadCourses
+pub mod OwnEntries
+mod PlainBlocks
+mod OneRelief
+mod LineSteps
+mod SmallScript

@@ -8,8 +8,8 @@ use Rattle.up_model.specs.declared.entry.Call.TheVariants as calls
 use Rattle.up_model.specs.declared.entry.Reply.{Reply}
 use Rattle.up_model.specs.declared.entry.Reply.TheVariants as replies
 use Rattle.up_worker.specs.Calls.{bringing, frames_before, borrows}
-use Rattle.up_worker.specs.Frames.{Judge, front, behind, asked}
-use Rattle.up_worker.specs.Lives.{Entered, is_evict}
+use Rattle.up_worker.specs.Frames.{Judge, front, behind, asked_by_last}
+use Rattle.up_worker.specs.Courses.{Entered, is_evict}
 use Rattle.up_worker.specs.Wishes.{settles, is_refused, ticket_after, attempt}
 use Rattle.up_worker.specs.declared.course.Aim.{Aim}
 
@@ -75,7 +75,7 @@ or_supplied (Some count) call = Some count
 
 -- how many frames are wanted for a call: as many as the entry before its evicts asks for, else one for each page of a supply
 abbrev pub wanted : List Entered → Call → Option ℕ
-wanted made call = or_supplied (asked (behind made)) call
+wanted made call = or_supplied (asked_by_last (behind made)) call
 
 -- What comes with a call after the entries `made` of its block: nothing, and no evicts; or where one loaned frame is wanted, what is lent; or where frames
 -- are wanted, what is gathered, with the evicts that stand last. The judge says of all entries before which frames these are; `start` are those before the block.

@@ -5,16 +5,16 @@ use Rattle.up_model.specs.Legal.{Legal}
 use Rattle.up_model.specs.declared.entry.Birth.{Birth}
 use Rattle.up_model.specs.declared.entry.Call.{Call}
 use Rattle.up_model.specs.declared.entry.Reply.{Reply}
-use Rattle.up_worker.specs.Lives.{Entered, is_told, lines as begun}
+use Rattle.up_worker.specs.Courses.{Entered, is_told, lines as begun}
 use Rattle.up_worker.specs.Rules.{Rules}
 use Rattle.up_worker.specs.Thread.{of_object}
 use Rattle.up_worker.specs.declared.course.Doing.{Doing}
 use Rattle.up_steps.specs.Steps.{Setting, Moment, Steps}
 use Rattle.up_steps.specs.Told.{own}
-use Rattle.up_steps.specs.World.{Happening, entries, events_of, moment_in, OneThread, Ran}
+use Rattle.up_steps.specs.OneThread.{ActorEvent, entries, events_of, moment_in, OneThread, Ran}
 
 abbrev pub StepsFollow : Type 0
-StepsFollow = (s : Setting) (lines : List Line) (world : List Happening) → OneThread s world → Ran s lines world → Steps s lines (moment_in s world) (entries world)
+StepsFollow = (s : Setting) (lines : List Line) (history : List ActorEvent) → OneThread s history → Ran s lines history → Steps s lines (moment_in s history) (entries history)
 
 -- lines that are told by the entries of their calls
 abbrev pub AllTold : List Doing → Type 0
@@ -23,7 +23,7 @@ AllTold (doing ∷ earlier) = (is_told doing ≡ true) × AllTold earlier
 
 -- an actor's entries keep the rules on what is pending and on tickets, where its lines are told so
 abbrev pub KeepsRules : Type 0
-KeepsRules = (s : Setting) (who : ℕ) (world : List Happening) → OneThread s world → AllTold (begun (events_of who world)) → Rules (own who (entries world))
+KeepsRules = (s : Setting) (who : ℕ) (history : List ActorEvent) → OneThread s history → AllTold (begun (events_of who history)) → Rules (own who (entries history))
 
 -- each entry's reply is the one that the entries before it give
 abbrev pub Answered : (List Entered → ℕ → ℕ → ℕ → Call → Reply) → List Entered → Type 0

@@ -1,6 +1,6 @@
 pub mod Asked
 pub mod Told
 pub mod Steps
-pub mod World
+pub mod OneThread
 pub mod Laws
 pub mod Row

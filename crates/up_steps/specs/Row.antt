@@ -1,5 +1,5 @@
--- One small script, and what happens where it is done: a read that blocks, a packet, a supply, a go.
-use Rattle.std.specs.Prelude.{ℕ, List, [], ◌∷◌}
+-- One small script, and what event_of where it is done: a read that blocks, a packet, a supply, a go.
+use Rattle.std.specs.Prelude.{◌≡◌, ℕ, false, List, [], ◌∷◌}
 use Rattle.up_num.specs.Span.{Span}
 use Rattle.up_num.specs.declared.answers.Packet.TheVariants as packets
 use Rattle.up_model.specs.declared.entry.Brought.TheVariants.{Nothing, Frames}
@@ -12,11 +12,12 @@ use Rattle.up_script.specs.declared.script.Action.{Action}
 use Rattle.up_script.specs.declared.script.Action.TheVariants as actions
 use Rattle.up_script.specs.declared.script.Kind.TheVariants as kinds
 use Rattle.up_script.specs.declared.script.Line.{Line}
-use Rattle.up_worker.specs.Lives.{Entered, Begins, Hears}
+use Rattle.up_worker.specs.Courses.{Entered, Begins, Hears}
 use Rattle.up_worker.specs.declared.course.Doing.TheVariants.{OneLine}
 use Rattle.up_worker.specs.declared.wish.Heard.TheVariants as heard
 use Rattle.up_steps.specs.Steps.{Setting, Moment, Steps}
-use Rattle.up_steps.specs.World.{Happening, happens, OneThread, Ran}
+use Rattle.up_steps.specs.Told.{is_played}
+use Rattle.up_steps.specs.OneThread.{ActorEvent, event_of, OneThread, Ran}
 
 -- a user and a pager of one object; two frames are always at home
 abbrev pub setting : Setting
@@ -72,23 +73,23 @@ abbrev pub retried : Entered
 retried = entered 0 (calls.Retry 0 Nothing) read_bytes
 
 -- after each line, newest first
-abbrev pub after_read : List Happening
-after_read = happens 0 (Hears (heard.Replied (replies.Blocked 0)) (blocked ∷ [])) ∷ happens 0 (Begins (OneLine reading)) ∷ []
+abbrev pub after_read : List ActorEvent
+after_read = event_of 0 (Hears (heard.Replied (replies.Blocked 0)) (blocked ∷ [])) ∷ event_of 0 (Begins (OneLine reading)) ∷ []
 
-abbrev pub after_packet : List Happening
-after_packet = happens 1 (Hears (heard.Replied packet_reply) (taken ∷ [])) ∷ happens 1 (Begins (OneLine taking)) ∷ after_read
+abbrev pub after_packet : List ActorEvent
+after_packet = event_of 1 (Hears (heard.Replied packet_reply) (taken ∷ [])) ∷ event_of 1 (Begins (OneLine taking)) ∷ after_read
 
-abbrev pub after_supply : List Happening
+abbrev pub after_supply : List ActorEvent
 after_supply =
-    happens 1 (Hears (heard.Replied (replies.Took 1 (0 ∷ []))) (supplied_with (Frames 1) ∷ [])) ∷ happens 1 (Hears (heard.Brought (Frames 1)) [])
-    ∷ happens 1 (Begins (OneLine supplying)) ∷ after_packet
+    event_of 1 (Hears (heard.Replied (replies.Took 1 (0 ∷ []))) (supplied_with (Frames 1) ∷ [])) ∷ event_of 1 (Hears (heard.Brought (Frames 1)) [])
+    ∷ event_of 1 (Begins (OneLine supplying)) ∷ after_packet
 
-abbrev pub world : List Happening
-world = happens 0 (Hears (heard.Replied read_bytes) (retried ∷ [])) ∷ happens 0 (Hears heard.Done []) ∷ after_supply
+abbrev pub history : List ActorEvent
+history = event_of 0 (Hears (heard.Replied read_bytes) (retried ∷ [])) ∷ event_of 0 (Hears heard.Done []) ∷ after_supply
 
--- all that happens so is one thread's
+-- all that event_of so is one thread's
 abbrev pub IsOneThreads : Type 0
-IsOneThreads = OneThread setting world × Ran setting lines world
+IsOneThreads = OneThread setting history × Ran setting lines history
 
 -- and its four entries are the steps of the lines
 abbrev pub HasItsSteps : Type 0
@@ -111,3 +112,8 @@ read_line = by_line 6 0 reading ∷ []
 -- a line that isn't done
 abbrev pub RefusesNothing : Type 0
 RefusesNothing = (m : Moment) → Steps setting read_line m [] → ⊥
+
+-- a line that isn't played has no steps, whatever its entries are
+abbrev pub TellsNoOthers : Type 0
+TellsNoOthers = (s : Setting) (line : Line) (earlier : List Line) (m : Moment) (g : List Entered)
+    → is_played line.action ≡ false → Steps s (line ∷ earlier) m g → ⊥

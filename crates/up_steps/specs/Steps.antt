@@ -14,10 +14,10 @@ use Rattle.up_script.specs.declared.script.ActorLine.{ActorLine}
 use Rattle.up_script.specs.declared.script.Line.{Line}
 use Rattle.up_worker.specs.Calls.{calls_in}
 use Rattle.up_worker.specs.Frames.{Judge, front}
-use Rattle.up_worker.specs.Lives.{Entered, OwnEvicts}
-use Rattle.up_worker.specs.Thread.{exact, culls_of}
+use Rattle.up_worker.specs.Courses.{Entered, OwnEvicts}
+use Rattle.up_worker.specs.Thread.{exact, reclaims_of}
 use Rattle.up_steps.specs.Asked.{without_evicts, AreNext, IsDone, AllBring}
-use Rattle.up_steps.specs.Told.{own, last_parks, parked, is_go, given_to, kind_at, objects_at, Told, ToldInPart}
+use Rattle.up_steps.specs.Told.{own, last_parks, parked, is_go, is_played, given_to, kind_at, objects_at, Told, ToldInPart}
 
 -- What is given: the actors, how many objects there are, the marks of levels, how many ordinary frames are at home after these entries, and how many
 -- loaned ones where so many are kept by evictors.
@@ -88,9 +88,9 @@ OneCall s m objects object call start made = AllMade s m objects (actions.Act ob
 -- The block of an evictor's line. A relief by so many frames is one as where none is free; a watch is one by what lacks to the mark, of the level of the
 -- frames at home.
 abbrev pub Evictors : Setting → Moment → List ℕ → ℕ → Action → List Entered → List Entered → Type 0
-Evictors s m objects who (actions.Relieve frames) start made = OwnEvicts who made × Relieves frames (turns (age_limits Empty) s.objects) [] (culls_of made)
+Evictors s m objects who (actions.Relieve frames) start made = OwnEvicts who made × Relieves frames (turns (age_limits Empty) s.objects) [] (reclaims_of made)
 Evictors s m objects who actions.Watch start made =
-    OwnEvicts who made × Relieves (s.levels.warn - s.home start) (turns (age_limits (level_of s.levels (s.home start))) s.objects) [] (culls_of made)
+    OwnEvicts who made × Relieves (s.levels.warn - s.home start) (turns (age_limits (level_of s.levels (s.home start))) s.objects) [] (reclaims_of made)
 Evictors s m objects who (actions.Act object call) start made = OneCall s m objects object call start made
 Evictors s m objects who action start made = AllMade s m objects action start made
 
@@ -125,9 +125,9 @@ pub record LineDone (s : Setting) (m : Moment) (lines : List Line) (line : Line)
   pub stops : Stops made
   pub block : Block s m lines line (is_go line.action) (parked line.actor start) start made
 
--- the entries of these lines, done in order, and the moment after them
+-- The entries of these lines, done in order, and the moment after them. Of a line that isn't played nothing is said: it has no steps.
 abbrev pub Steps : Setting → List Line → Moment → List Entered → Type 0
 Steps s [] m now = (now ≡ []) × (m ≡ first_moment s)
 Steps s (line ∷ earlier) m now =
-    (before : Moment) × (start : List Entered) × Steps s earlier before start × LineDone s before (line ∷ earlier) line start now
-    × (m ≡ moment_after s before line.actor line.action now)
+    (before : Moment) × (start : List Entered) × Steps s earlier before start × (is_played line.action ≡ true)
+    × LineDone s before (line ∷ earlier) line start now × (m ≡ moment_after s before line.actor line.action now)

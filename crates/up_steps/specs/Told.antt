@@ -7,7 +7,7 @@ use Rattle.up_script.specs.declared.script.ActorLine.{ActorLine}
 use Rattle.up_script.specs.declared.script.Kind.{Kind}
 use Rattle.up_script.specs.declared.script.Line.{Line}
 use Rattle.up_worker.specs.Calls.{calls_of, is_access}
-use Rattle.up_worker.specs.Lives.{Entered}
+use Rattle.up_worker.specs.Courses.{Entered}
 use Rattle.up_worker.specs.declared.course.Doing.{Doing}
 use Rattle.up_worker.specs.declared.course.Doing.TheVariants.{Idle, OneLine}
 use Rattle.up_steps.specs.Asked.{parks, AreNext, IsDone}
@@ -28,6 +28,12 @@ parked who g = last_parks (own who g)
 abbrev pub is_go : Action → Bool
 is_go actions.Go = true
 is_go _ = false
+
+-- a line that the steps tell: none of a sample pager, and no sync
+abbrev pub is_played : Action → Bool
+is_played (actions.Sync object) = false
+is_played (actions.Turn object steps) = false
+is_played _ = true
 
 -- the lines of an actor, but for go; before the first it is idle
 abbrev pub given_to : ℕ → List Line → List Doing

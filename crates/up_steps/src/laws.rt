@@ -1,7 +1,7 @@
 //! What follows where one thread does what actors wish, line by line.
 
 ghost use Rattle.up_steps.specs.Laws.{StepsFollow, StepsDecide, LinesDecide, KeepsRules};
-ghost use Rattle.up_steps.specs.Row.{IsOneThreads, HasItsSteps, RefusesMore, RefusesOther, RefusesNothing};
+ghost use Rattle.up_steps.specs.Row.{IsOneThreads, HasItsSteps, RefusesMore, RefusesOther, RefusesNothing, TellsNoOthers};
 
 /// Where each event follows on what its actor said, is done exactly, and the lines are gone through in order, all entries are the steps of these lines.
 pub fn doing_wishes_makes_the_steps()
@@ -26,9 +26,11 @@ pub fn a_small_script_is_done_so()
     ensures steps { HasItsSteps }
 {}
 
-/// One frame too many, an entry of another actor, and a line that isn't done are no steps of a line.
+/// One frame too many, an entry of another actor, and a line that isn't done are no steps of a line. A turn and a sync
+/// have no steps at all.
 pub fn other_entries_are_no_steps()
     ensures more { RefusesMore }
     ensures other { RefusesOther }
     ensures nothing { RefusesNothing }
+    ensures untold { TellsNoOthers }
 {}

@@ -1,4 +1,5 @@
 //! What all entries of a script's objects are where its lines are done in order on one thread: they are decided by the lines, and doing what actors wish makes them so.
+//! Used through `up_stage`, by `cases/step`; one small script is computed in its `proofs`.
 #![tactic(auto)]
 
 mod laws;

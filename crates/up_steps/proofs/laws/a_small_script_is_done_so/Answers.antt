@@ -1,4 +1,4 @@
-use Rattle.up_steps.proofs.Small.{is_one_threads, has_its_steps}
+use Rattle.up_steps.proofs.SmallScript.{is_one_threads, has_its_steps}
 use Rattle.up_steps.proofs.laws.a_small_script_is_done_so.Goals as goal
 
 pub returns-clause-happens : goal.returns-clause-happens

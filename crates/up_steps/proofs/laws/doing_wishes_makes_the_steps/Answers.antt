@@ -1,4 +1,4 @@
-use Rattle.up_steps.proofs.Lining.{steps_follow}
+use Rattle.up_steps.proofs.LineBlocks.{steps_follow}
 use Rattle.up_steps.proofs.laws.doing_wishes_makes_the_steps.Goals as goal
 
 pub returns : goal.returns

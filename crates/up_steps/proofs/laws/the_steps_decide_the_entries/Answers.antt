@@ -1,5 +1,5 @@
-use Rattle.up_steps.proofs.Legally.{lines_decide}
-use Rattle.up_steps.proofs.Settling.{steps_decide}
+use Rattle.up_steps.proofs.LegalReplies.{lines_decide}
+use Rattle.up_steps.proofs.LineSteps.{steps_decide}
 use Rattle.up_steps.proofs.laws.the_steps_decide_the_entries.Goals as goal
 
 pub returns-clause-steps : goal.returns-clause-steps

@@ -7,18 +7,18 @@ use Rattle.up_evictor.specs.Levels.{age_limits}
 use Rattle.up_evictor.specs.Relief.{turns}
 use Rattle.up_evictor.specs.declared.levels.Level.TheVariants.{Empty}
 use Rattle.up_worker.specs.Calls.{bringing, borrows}
-use Rattle.up_worker.specs.Frames.{Judge, front, behind, asked}
-use Rattle.up_worker.specs.Lives.{Entered, is_evict}
+use Rattle.up_worker.specs.Frames.{Judge, front, behind, asked_by_last}
+use Rattle.up_worker.specs.Courses.{Entered, is_evict}
 use Rattle.up_worker.specs.Wishes.{attempt}
 use Rattle.up_worker.specs.declared.course.Aim.{Aim}
 use Rattle.up_steps.specs.Asked.{without_evicts, or_supplied, wanted, Comes, Brings, AllBring}
 use Rattle.up_steps.specs.Steps.{Setting, Moment, judge_at, IsFramed}
-use Rattle.up_worker.proofs.Framing.{same_before, behind_same}
-use Rattle.up_worker.proofs.Saying.{bringing_again}
-use Rattle.up_steps.proofs.Calling.{borrows_brought}
-use Rattle.up_steps.proofs.Chaining.{Chain, Common, same_next}
-use Rattle.up_steps.proofs.Going.{same_wanted}
-use Rattle.up_steps.proofs.Relieving.{NextEvict, Evicts, AllEvicts, front_evicts, IsRelief, relief_of, same_evict, ends_relief}
+use Rattle.up_worker.proofs.BroughtFrames.{same_before, behind_same}
+use Rattle.up_worker.proofs.StandingWishes.{bringing_again}
+use Rattle.up_steps.proofs.CallsAndEvicts.{borrows_brought}
+use Rattle.up_steps.proofs.GrowingLists.{Chain, Common, same_next}
+use Rattle.up_steps.proofs.LineEntries.{same_wanted}
+use Rattle.up_steps.proofs.OneRelief.{NextEvict, Evicts, AllEvicts, front_evicts, IsRelief, relief_of, same_evict, ends_relief}
 
 -- which calls are under way after some entries, without evicts
 abbrev pub Ways : Type 1
@@ -143,7 +143,7 @@ gathered U s m due start who one ticket count b (x ∷ evs) none under lends wan
           under = subst (λ ps. U ps one ticket) (sym (without_of evs b all.1)) under;
           count = count;
           lends = lends;
-          wants = ap (λ xs. or_supplied (asked xs) (attempt ticket one.call)) (back ∙ sym (behind_same b none)) ∙ wants;
+          wants = ap (λ xs. or_supplied (asked_by_last xs) (attempt ticket one.call)) (back ∙ sym (behind_same b none)) ∙ wants;
           short = ap (λ xs. nat_le count (s.home (xs ++ start))) back ∙ short;
           next = subst (λ xs. NextEvict (count - s.home (xs ++ start)) (turns (age_limits Empty) s.objects) (front (evs ++ b)) x) (sym back)
               (subst (λ xs. NextEvict (count - s.home (b ++ start)) (turns (age_limits Empty) s.objects) xs x) (sym (front_of evs b all.1 none)) evicts.1);
@@ -197,7 +197,7 @@ chain_to false false (Some count) U s m due start who c x k lends wants comes is
     let without : without_evicts c ≡ without_evicts (behind c) = ap without_evicts whole ∙ without_of (front c) (behind c) evs in
     subst (λ xs. Chain (Next U s m due start who) xs) (sym whole)
     (gathered U s m due start who k.one k.ticket count (behind c) (front c) none (subst (λ ps. U ps k.one k.ticket) without k.under) lends
-    (ap (λ xs. or_supplied (asked xs) (attempt k.ticket k.one.call)) (behind_same (behind c) none) ∙ wants) is evs relief.evicts
+    (ap (λ xs. or_supplied (asked_by_last xs) (attempt k.ticket k.one.call)) (behind_same (behind c) none) ∙ wants) is evs relief.evicts
     (subst (λ xs. Chain (Common due start who m.ages) xs) whole common) chain)
 
 chain_by : (test : Bool) (U : Ways) (s : Setting) (m : Moment) (due : List Entered → ℕ → ℕ → ℕ → Call → Reply) (start : List Entered) (who : ℕ) (c : List Entered) (x : Entered)

@@ -6,11 +6,11 @@ use Rattle.up_model.specs.declared.entry.Birth.{Birth}
 use Rattle.up_model.specs.declared.entry.Call.{Call}
 use Rattle.up_model.specs.declared.entry.Entry.{Entry}
 use Rattle.up_model.specs.declared.entry.Reply.{Reply}
-use Rattle.up_worker.specs.Lives.{Entered}
+use Rattle.up_worker.specs.Courses.{Entered}
 use Rattle.up_worker.specs.Thread.{of_object}
 use Rattle.up_steps.specs.Laws.{Answered, AreLegal, LinesDecide}
-use Rattle.up_steps.proofs.Owning.{same_test}
-use Rattle.up_steps.proofs.Settling.{steps_decide}
+use Rattle.up_steps.proofs.OwnEntries.{same_test}
+use Rattle.up_steps.proofs.LineSteps.{steps_decide}
 
 abbrev due_by : (ℕ → Birth) → List Entered → ℕ → ℕ → ℕ → Call → Reply
 due_by births before object who epoch call = reply (births object) (of_object object before) who epoch call

@@ -1,4 +1,4 @@
--- Line by line: all that happens at a line makes its block.
+-- Line by line: all that event_of at a line makes its block.
 use Rattle.std.proofs.Common.{◌≡◌, ℕ, ◌<◌, ◌==◌, ◌&&◌, ◌⊎◌, ◌++◌, not, Bool, true, false, cond, is_some, Option, Some, None, List, [], ◌∷◌, length, refl, sym, ap, ◌∙◌, subst, arith, inl, inr, length-append}
 use Rattle.std.proofs.lemmas.Bool.Decides.{nat_tests}
 use Rattle.up_model.specs.declared.entry.Brought.TheVariants.{Nothing}
@@ -11,7 +11,7 @@ use Rattle.up_script.specs.declared.script.Action.TheVariants as actions
 use Rattle.up_script.specs.declared.script.Line.{Line}
 use Rattle.up_worker.specs.Acting.{Acting, under_way, next_wish, next_acting}
 use Rattle.up_worker.specs.Frames.{Judge, front}
-use Rattle.up_worker.specs.Lives.{Entered, Event, Begins, Hears, lines as begun}
+use Rattle.up_worker.specs.Courses.{Entered, Event, Begins, Hears, lines as begun}
 use Rattle.up_worker.specs.Wishes.{makes}
 use Rattle.up_worker.specs.declared.course.Aim.{Aim}
 use Rattle.up_worker.specs.declared.course.Doing.{Doing}
@@ -22,13 +22,13 @@ use Rattle.up_worker.specs.declared.wish.Wish.TheVariants as wishes
 use Rattle.up_steps.specs.Laws.{StepsFollow}
 use Rattle.up_steps.specs.Steps.{Setting, Moment, first_moment, moment_after, judge_at, IsFar, GoesFar, Does, Block, LineDone, Steps}
 use Rattle.up_steps.specs.Told.{own, last_parks, parked, is_go, given_to, kind_at}
-use Rattle.up_steps.specs.World.{Happening, happens, entries, events_of, said_by, made_by, moment_by, moment_in, Follows, OneThread, is_park, rests, is_parked, GoesOn, Began, Woken, LineRan, Ran}
-use Rattle.up_steps.proofs.Answering.{line_did}
+use Rattle.up_steps.specs.OneThread.{ActorEvent, event_of, entries, events_of, said_by, made_by, moment_by, moment_in, Follows, OneThread, is_park, rests, is_parked, GoesOn, Began, WentOn, LineRan, Ran}
+use Rattle.up_steps.proofs.EvictorAnswers.{line_did}
 use Rattle.up_steps.proofs.Blocks.{going_moves, plainly_of, rested_of, rested_parked, Ended, goes_plainly, others_stay, answers_begin_none, one_before, Stands, far_of}
-use Rattle.up_steps.proofs.Evicting.{timed_last}
-use Rattle.up_steps.proofs.Going.{Says, Going, going_woken}
-use Rattle.up_steps.proofs.Owning.{same_test, own_other, events_mine, events_other}
-use Rattle.up_steps.proofs.Plainly.{IsPlain, AllPlain, plain_line, out_after, Plainly, plainly_begins}
+use Rattle.up_steps.proofs.EvictorBlocks.{timed_last}
+use Rattle.up_steps.proofs.LineEntries.{Says, Going, going_woken}
+use Rattle.up_steps.proofs.OwnEntries.{same_test, own_other, events_mine, events_other}
+use Rattle.up_steps.proofs.PlainBlocks.{IsPlain, AllPlain, plain_line, out_after, Plainly, plainly_begins}
 
 -- where an evictor stands: no line of it is ever left undone
 record AtRest (s : Setting) (who : ℕ) (events : List Event) (t : List Entered) : Type 0 where
@@ -39,8 +39,8 @@ abbrev Standing : Bool → Setting → List Line → ℕ → List Event → List
 Standing true s lines who events t = AtRest s who events t
 Standing false s lines who events t = Stands s lines who events t
 
-abbrev StandsAt : Setting → List Line → List Happening → ℕ → Type 0
-StandsAt s lines world who = Standing (is_evictor (kind_at s.actors who)) s lines who (events_of who world) (own who (entries world))
+abbrev StandsAt : Setting → List Line → List ActorEvent → ℕ → Type 0
+StandsAt s lines history who = Standing (is_evictor (kind_at s.actors who)) s lines who (events_of who history) (own who (entries history))
 
 -- the entries tell who is parked
 parked_by : (evicts : Bool) (s : Setting) (lines : List Line) (who : ℕ) (events : List Event) (t : List Entered) → Standing evicts s lines who events t
@@ -69,7 +69,7 @@ given_mine : (line : Line) (earlier : List Line) → is_go line.action ≡ false
 given_mine line earlier unless =
     one_given (line.actor == line.actor) (is_go line.action) (OneLine line.action) (given_to line.actor earlier) (same_test line.actor line.actor refl) unless
 
--- an actor of whom nothing happens stands where it stood
+-- an actor of whom nothing event_of stands where it stood
 stays_by : (evicts : Bool) (s : Setting) (lines more : List Line) (who : ℕ) (events : List Event) (t : List Entered) → given_to who more ≡ given_to who lines
     → Standing evicts s lines who events t → Standing evicts s more who events t
 stays_by true s lines more who events t same st = st
@@ -82,7 +82,7 @@ stays_by false s lines more who events t same st = record {
 }
 
 -- what a line leaves
-record Lined (s : Setting) (lines : List Line) (line : Line) (before now : List Happening) : Type 0 where
+record Lined (s : Setting) (lines : List Line) (line : Line) (before now : List ActorEvent) : Type 0 where
   done : LineDone s (moment_in s before) lines line (entries before) (entries now)
   moment : moment_in s now ≡ moment_after s (moment_in s before) line.actor line.action (entries now)
   others : (other : ℕ) → (line.actor == other) ≡ false → events_of other now ≡ events_of other before
@@ -100,7 +100,7 @@ none_by false true s m lines line start differs = refl
 none_by true true s m lines line start differs = absurd cc
 none_by false false s m lines line start differs = absurd cc
 
-nothing_done : (go waits : Bool) (s : Setting) (lines : List Line) (line : Line) (before : List Happening) → is_go line.action ≡ go
+nothing_done : (go waits : Bool) (s : Setting) (lines : List Line) (line : Line) (before : List ActorEvent) → is_go line.action ≡ go
     → parked line.actor (entries before) ≡ waits → go ≡ not waits
     → moment_after s (moment_in s before) line.actor line.action (entries before) ≡ moment_in s before → StandsAt s lines before line.actor
     → Lined s lines line before before
@@ -125,7 +125,7 @@ go_moment s m who _ g is = absurd cc
 plain_moment : (s : Setting) (m : Moment) (who : ℕ) (action : Action) (g : List Entered) → IsPlain (OneLine action) → moment_after s m who action g ≡ m
 plain_moment s m who action g plain = sym (timed_last s m who action g) ∙ ap (λ w. moment_by s m who w g) plain.last
 
-lined_idle : (s : Setting) (line : Line) (earlier : List Line) (before : List Happening) → is_go line.action ≡ true → is_parked s line.actor before ≡ false
+lined_idle : (s : Setting) (line : Line) (earlier : List Line) (before : List ActorEvent) → is_go line.action ≡ true → is_parked s line.actor before ≡ false
     → StandsAt s earlier before line.actor → Lined s (line ∷ earlier) line before before
 lined_idle s line earlier before is free st =
     nothing_done true false s (line ∷ earlier) line before is
@@ -152,7 +152,7 @@ waits_by false s line earlier events t kind unless may held st =
       },
     )
 
-lined_waits : (s : Setting) (line : Line) (earlier : List Line) (before : List Happening) → is_go line.action ≡ false → is_parked s line.actor before ≡ true
+lined_waits : (s : Setting) (line : Line) (earlier : List Line) (before : List ActorEvent) → is_go line.action ≡ false → is_parked s line.actor before ≡ true
     → may_do (kind_at s.actors line.actor) line.action ≡ true → StandsAt s earlier before line.actor → Lined s (line ∷ earlier) line before before
 lined_waits s line earlier before unless held may st =
     let both = waits_by (is_evictor (kind_at s.actors line.actor)) s line earlier (events_of line.actor before) (own line.actor (entries before)) refl unless may held st in
@@ -166,7 +166,7 @@ says_quiet j start a now made t (wishes.Park object) rest says = says.quiet.none
 says_quiet j start a now made t wishes.LineEnd rest says = says.quiet.none
 says_quiet j start a now made t _ rest says = absurd cc
 
-goes_far : (s : Setting) (lines : List Line) (who : ℕ) (before now : List Happening) (e : Ended s (moment_in s before) who (entries before) now)
+goes_far : (s : Setting) (lines : List Line) (who : ℕ) (before now : List ActorEvent) (e : Ended s (moment_in s before) who (entries before) now)
     → Stands s lines who (events_of who now) (own who (entries now)) → GoesFar s (moment_in s before) lines who (entries before) e.plainly.made
 goes_far s lines who before now e st = record {
   framed = record {
@@ -181,9 +181,9 @@ does_at : (evicts : Bool) (s : Setting) (m : Moment) (lines : List Line) (who : 
     → Does s m lines who action evicts start made → Does s m lines who action (is_evictor (kind_at s.actors who)) start made
 does_at evicts s m lines who action start made kind does = subst (λ b. Does s m lines who action b start made) (sym kind) does
 
-stand_at : (evicts : Bool) (s : Setting) (lines : List Line) (world : List Happening) (who : ℕ) → is_evictor (kind_at s.actors who) ≡ evicts
-    → Standing evicts s lines who (events_of who world) (own who (entries world)) → StandsAt s lines world who
-stand_at evicts s lines world who kind st = subst (λ b. Standing b s lines who (events_of who world) (own who (entries world))) (sym kind) st
+stand_at : (evicts : Bool) (s : Setting) (lines : List Line) (history : List ActorEvent) (who : ℕ) → is_evictor (kind_at s.actors who) ≡ evicts
+    → Standing evicts s lines who (events_of who history) (own who (entries history)) → StandsAt s lines history who
+stand_at evicts s lines history who kind st = subst (λ b. Standing b s lines who (events_of who history) (own who (entries history))) (sym kind) st
 
 ended_at : (said : Wish) → rests said ≡ true → is_park said ≡ false → said ≡ wishes.LineEnd
 ended_at (wishes.Park object) rest unless = absurd cc
@@ -195,10 +195,10 @@ plain_later [] begun_now plain = plain
 plain_later (doing ∷ later) begun_now plain = plain_later later begun_now plain.1
 
 -- a line is begun and gone on with
-abbrev base_of : Line → List Happening → List Happening
-base_of line before = happens line.actor (Begins (OneLine line.action)) ∷ before
+abbrev base_of : Line → List ActorEvent → List ActorEvent
+base_of line before = event_of line.actor (Begins (OneLine line.action)) ∷ before
 
-began_base : (s : Setting) (line : Line) (earlier : List Line) (before : List Happening) → is_parked s line.actor before ≡ false
+began_base : (s : Setting) (line : Line) (earlier : List Line) (before : List ActorEvent) → is_parked s line.actor before ≡ false
     → may_do (kind_at s.actors line.actor) line.action ≡ true → is_evictor (kind_at s.actors line.actor) ≡ false
     → Stands s earlier line.actor (events_of line.actor before) (own line.actor (entries before))
     → Ended s (moment_in s before) line.actor (entries before) (base_of line before)
@@ -208,14 +208,14 @@ began_base s line earlier before free may kind st =
     let rested = plainly_of s m who (events_of who before) (entries before) st.rested in
     let ended = ended_at (out_after s who (events_of who before)).said st.rested.rests free in
     record {
-      plainly = subst (λ es. Plainly s m who (entries before) es (entries before)) (sym (events_mine who (happens who (Begins (OneLine line.action))) before refl))
+      plainly = subst (λ es. Plainly s m who (entries before) es (entries before)) (sym (events_mine who (event_of who (Begins (OneLine line.action))) before refl))
           (plainly_begins s m who (entries before) (events_of who before) (entries before) (OneLine line.action) rested ended
           (plain_line (kind_at s.actors who) line.action may kind));
       moment = refl;
     }
 
 -- the lines begun are those given
-began_given : (s : Setting) (line : Line) (earlier : List Line) (before now : List Happening) → is_go line.action ≡ false → is_parked s line.actor before ≡ false
+began_given : (s : Setting) (line : Line) (earlier : List Line) (before now : List ActorEvent) → is_go line.action ≡ false → is_parked s line.actor before ≡ false
     → Stands s earlier line.actor (events_of line.actor before) (own line.actor (entries before)) → Began s line before now
     → given_to line.actor (line ∷ earlier) ≡ begun (events_of line.actor now)
 began_given s line earlier before now unless free st b =
@@ -224,10 +224,10 @@ began_given s line earlier before now unless free st b =
     let old : given_to who earlier ≡ begun (events_of who before) = st.given ∙ ap (λ ds. ds ++ begun (events_of who before)) none in
     let new : begun (events_of who now) ≡ OneLine line.action ∷ begun (events_of who before) =
     ap (λ w. begun (events_of who w)) b.is ∙ (answers_begin_none s who b.more (base_of line before) b.goes b.answers
-    ∙ ap begun (events_mine who (happens who (Begins (OneLine line.action))) before refl)) in
+    ∙ ap begun (events_mine who (event_of who (Begins (OneLine line.action))) before refl)) in
     given_mine line earlier unless ∙ (ap (λ ds. OneLine line.action ∷ ds) old ∙ sym new)
 
-lined_far : (s : Setting) (line : Line) (earlier : List Line) (before now : List Happening) → OneThread s now → Began s line before now
+lined_far : (s : Setting) (line : Line) (earlier : List Line) (before now : List ActorEvent) → OneThread s now → Began s line before now
     → is_go line.action ≡ false → is_parked s line.actor before ≡ false → may_do (kind_at s.actors line.actor) line.action ≡ true
     → is_evictor (kind_at s.actors line.actor) ≡ false
     → Stands s earlier line.actor (events_of line.actor before) (own line.actor (entries before)) → Lined s (line ∷ earlier) line before now
@@ -261,12 +261,12 @@ lined_far s line earlier before now one b unless free may kind st =
       };
       moment = e.moment ∙ sym (plain_moment s m who line.action (entries now) plain_now);
       others = λ other differs. ap (λ w. events_of other w) b.is ∙ (others_stay s who other b.more (base_of line before) b.goes differs
-          ∙ events_other who other (happens who (Begins (OneLine line.action))) before refl differs);
+          ∙ events_other who other (event_of who (Begins (OneLine line.action))) before refl differs);
       mine = stand_at false s (line ∷ earlier) now who kind stands;
     }
 
 -- an evictor's line
-lined_evicts : (s : Setting) (line : Line) (earlier : List Line) (before now : List Happening) → OneThread s now → Began s line before now
+lined_evicts : (s : Setting) (line : Line) (earlier : List Line) (before now : List ActorEvent) → OneThread s now → Began s line before now
     → is_go line.action ≡ false → may_do (kind_at s.actors line.actor) line.action ≡ true
     → is_evictor (kind_at s.actors line.actor) ≡ true
     → AtRest s line.actor (events_of line.actor before) (own line.actor (entries before)) → Lined s (line ∷ earlier) line before now
@@ -286,11 +286,11 @@ lined_evicts s line earlier before now one b unless may kind st =
       };
       moment = d.moment;
       others = λ other differs. ap (λ w. events_of other w) b.is ∙ (others_stay s who other b.more (base_of line before) b.goes differs
-          ∙ events_other who other (happens who (Begins (OneLine line.action))) before refl differs);
+          ∙ events_other who other (event_of who (Begins (OneLine line.action))) before refl differs);
       mine = stand_at true s (line ∷ earlier) now who kind (record { ended = d.ended; tail = d.tail });
     }
 
-lined_begins : (evicts : Bool) (s : Setting) (line : Line) (earlier : List Line) (before now : List Happening) → OneThread s now → Began s line before now
+lined_begins : (evicts : Bool) (s : Setting) (line : Line) (earlier : List Line) (before now : List ActorEvent) → OneThread s now → Began s line before now
     → is_go line.action ≡ false → is_parked s line.actor before ≡ false → may_do (kind_at s.actors line.actor) line.action ≡ true
     → is_evictor (kind_at s.actors line.actor) ≡ evicts
     → Standing evicts s earlier line.actor (events_of line.actor before) (own line.actor (entries before)) → Lined s (line ∷ earlier) line before now
@@ -307,16 +307,16 @@ park_moment : (s : Setting) (m : Moment) (who : ℕ) (said : Wish) (g : List Ent
 park_moment s m who (wishes.Park object) g held = refl
 park_moment s m who _ g held = absurd cc
 
-woken_base : (s : Setting) (lines : List Line) (who : ℕ) (before : List Happening) → is_parked s who before ≡ true
+woken_base : (s : Setting) (lines : List Line) (who : ℕ) (before : List ActorEvent) → is_parked s who before ≡ true
     → Stands s lines who (events_of who before) (own who (entries before))
-    → Ended s (moment_in s before) who (entries before) (happens who (Hears heard.Done []) ∷ before)
+    → Ended s (moment_in s before) who (entries before) (event_of who (Hears heard.Done []) ∷ before)
 woken_base s lines who before held st =
     let m = moment_in s before in
     let events = events_of who before in
     let r = st.rested in
     let moved = going_moves (judge_at s (first_moment s)) (judge_at s m) [] (entries before) (out_after s who events).acting (out_after s who events).said r.now [] (own who (entries before)) r.rests r.going in
     record {
-      plainly = subst (λ es. Plainly s m who (entries before) es (entries before)) (sym (events_mine who (happens who (Hears heard.Done [])) before refl))
+      plainly = subst (λ es. Plainly s m who (entries before) es (entries before)) (sym (events_mine who (event_of who (Hears heard.Done [])) before refl))
           (record {
             made = [];
             now = r.now;
@@ -342,14 +342,14 @@ retry_wish a one (Some ticket) None way held = absurd cc
 retry_wish a one (Some ticket) (Some other) way held = (other.object, (calls.Retry ticket Nothing, refl))
 
 -- said right after the actor was told to go on
-woken_says : (s : Setting) (lines : List Line) (who : ℕ) (before : List Happening) → is_parked s who before ≡ true
+woken_says : (s : Setting) (lines : List Line) (who : ℕ) (before : List ActorEvent) → is_parked s who before ≡ true
     → Stands s lines who (events_of who before) (own who (entries before))
-    → (object : ℕ) × ((call : Call) × (said_by s who (happens who (Hears heard.Done []) ∷ before) ≡ wishes.Act object call))
+    → (object : ℕ) × ((call : Call) × (said_by s who (event_of who (Hears heard.Done []) ∷ before) ≡ wishes.Act object call))
 woken_says s lines who before held st =
     let a = (out_after s who (events_of who before)).acting in
     let found = by_said (out_after s who (events_of who before)).said held st.rested.going.says in
     let said = retry_wish a found.0 a.ticket (under_way a) found.1.0 found.1.1 in
-    (said.0, (said.1.0, ap (λ es. (out_after s who es).said) (events_mine who (happens who (Hears heard.Done [])) before refl) ∙ said.1.1))
+    (said.0, (said.1.0, ap (λ es. (out_after s who es).said) (events_mine who (event_of who (Hears heard.Done [])) before refl) ∙ said.1.1))
   where
     by_said : (said : Wish) → is_park said ≡ true
         → Says (judge_at s (first_moment s)) [] (out_after s who (events_of who before)).acting st.rested.now [] (own who (entries before)) said
@@ -357,13 +357,13 @@ woken_says s lines who before held st =
     by_said (wishes.Park object) held says = (says.one, (says.way, says.ticketed))
     by_said _ held says = absurd cc
 
--- so the first thing that happens then is an entry
+-- so the first thing that event_of then is an entry
 act_follows : (s : Setting) (m : Moment) (who object : ℕ) (call : Call) (event : Event) (g : List Entered) → Follows s m who (wishes.Act object call) event g
     → 0 < length (made_by event)
 act_follows s m who object call (Begins doing) g f = absurd cc
 act_follows s m who object call (Hears answer made) g f = let one = ap length f.carries.is in omega arith
 
-grows : (s : Setting) (who object : ℕ) (call : Call) (base : List Happening) → said_by s who base ≡ wishes.Act object call → (more : List Happening)
+grows : (s : Setting) (who object : ℕ) (call : Call) (base : List ActorEvent) → said_by s who base ≡ wishes.Act object call → (more : List ActorEvent)
     → OneThread s (more ++ base) → GoesOn s who more base → (more ≡ []) ⊎ (length (entries base) < length (entries (more ++ base)))
 grows s who object call base said [] one goes = inl refl
 grows s who object call base said (d ∷ more) one goes = by_rest (grows s who object call base said more one.0 goes.0)
@@ -382,29 +382,29 @@ grows s who object call base said (d ∷ more) one goes = by_rest (grows s who o
         inr (omega arith)
     by_rest (inr less) = let both = length-append (made_by d.event) (entries (more ++ base)) in inr (omega arith)
 
-some_made : (s : Setting) (lines : List Line) (who : ℕ) (before now : List Happening) → OneThread s now → Woken s lines who before now → is_parked s who before ≡ true
+some_made : (s : Setting) (lines : List Line) (who : ℕ) (before now : List ActorEvent) → OneThread s now → WentOn s lines who before now → is_parked s who before ≡ true
     → Stands s lines who (events_of who before) (own who (entries before)) → (made : List Entered) → entries now ≡ made ++ entries before → made ≡ [] → ⊥
 some_made s lines who before now one w held st made is none =
     by_rest (grows s who said.0 said.1.0 base said.1.1 w.more (subst (λ x. OneThread s x) w.is one) w.goes)
   where
-    base : List Happening
-    base = happens who (Hears heard.Done []) ∷ before
+    base : List ActorEvent
+    base = event_of who (Hears heard.Done []) ∷ before
 
-    said : (object : ℕ) × ((call : Call) × (said_by s who (happens who (Hears heard.Done []) ∷ before) ≡ wishes.Act object call))
+    said : (object : ℕ) × ((call : Call) × (said_by s who (event_of who (Hears heard.Done []) ∷ before) ≡ wishes.Act object call))
     said = woken_says s lines who before held st
 
-    by_rest : (w.more ≡ []) ⊎ (length (entries (happens who (Hears heard.Done []) ∷ before)) < length (entries (w.more ++ happens who (Hears heard.Done []) ∷ before))) → ⊥
+    by_rest : (w.more ≡ []) ⊎ (length (entries (event_of who (Hears heard.Done []) ∷ before)) < length (entries (w.more ++ event_of who (Hears heard.Done []) ∷ before))) → ⊥
     by_rest (inl no_more) =
-        let rest : rests (said_by s who (w.more ++ happens who (Hears heard.Done []) ∷ before)) ≡ true = subst (λ x. rests (said_by s who x) ≡ true) w.is w.rests in
-        let first : rests (said_by s who (happens who (Hears heard.Done []) ∷ before)) ≡ true = subst (λ ds. rests (said_by s who (ds ++ happens who (Hears heard.Done []) ∷ before)) ≡ true) no_more rest in
-        let acts : rests (said_by s who (happens who (Hears heard.Done []) ∷ before)) ≡ false = ap rests said.1.1 in
+        let rest : rests (said_by s who (w.more ++ event_of who (Hears heard.Done []) ∷ before)) ≡ true = subst (λ x. rests (said_by s who x) ≡ true) w.is w.rests in
+        let first : rests (said_by s who (event_of who (Hears heard.Done []) ∷ before)) ≡ true = subst (λ ds. rests (said_by s who (ds ++ event_of who (Hears heard.Done []) ∷ before)) ≡ true) no_more rest in
+        let acts : rests (said_by s who (event_of who (Hears heard.Done []) ∷ before)) ≡ false = ap rests said.1.1 in
         cc
     by_rest (inr less) =
         let same : entries now ≡ entries before = is ∙ ap (λ xs. xs ++ entries before) none in
-        let here : length (entries (w.more ++ happens who (Hears heard.Done []) ∷ before)) ≡ length (entries before) = ap (λ x. length (entries x)) (sym w.is) ∙ ap length same in
+        let here : length (entries (w.more ++ event_of who (Hears heard.Done []) ∷ before)) ≡ length (entries before) = ap (λ x. length (entries x)) (sym w.is) ∙ ap length same in
         omega arith
 
-lined_wakes : (s : Setting) (line : Line) (earlier : List Line) (before now : List Happening) → OneThread s now → Woken s (line ∷ earlier) line.actor before now
+lined_wakes : (s : Setting) (line : Line) (earlier : List Line) (before now : List ActorEvent) → OneThread s now → WentOn s (line ∷ earlier) line.actor before now
     → is_go line.action ≡ true → is_parked s line.actor before ≡ true → is_evictor (kind_at s.actors line.actor) ≡ false
     → Stands s earlier line.actor (events_of line.actor before) (own line.actor (entries before)) → Lined s (line ∷ earlier) line before now
 lined_wakes s line earlier before now one w is held kind st =
@@ -412,7 +412,7 @@ lined_wakes s line earlier before now one w is held kind st =
     let m = moment_in s before in
     let plain : AllPlain (given_to who (line ∷ earlier)) = subst AllPlain (sym (given_go who line earlier is)) st.plain in
     let begun_plain : AllPlain (begun (events_of who now)) = plain_later w.later (begun (events_of who now)) (subst AllPlain w.given plain) in
-    let goes = goes_plainly s m who (entries before) w.more (happens who (Hears heard.Done []) ∷ before) (woken_base s earlier who before held st)
+    let goes = goes_plainly s m who (entries before) w.more (event_of who (Hears heard.Done []) ∷ before) (woken_base s earlier who before held st)
     (subst (λ x. OneThread s x) w.is one) w.goes (subst (λ x. AllPlain (begun (events_of who x))) w.is begun_plain) in
     let e : Ended s m who (entries before) now = subst (λ x. Ended s m who (entries before) x) (sym w.is) goes in
     let stands : Stands s (line ∷ earlier) who (events_of who now) (own who (entries now)) = record {
@@ -436,19 +436,19 @@ lined_wakes s line earlier before now one w is held kind st =
         );
       };
       moment = e.moment ∙ sym (go_moment s m who line.action (entries now) is);
-      others = λ other differs. ap (λ x. events_of other x) w.is ∙ (others_stay s who other w.more (happens who (Hears heard.Done []) ∷ before) w.goes differs
-          ∙ events_other who other (happens who (Hears heard.Done [])) before refl differs);
+      others = λ other differs. ap (λ x. events_of other x) w.is ∙ (others_stay s who other w.more (event_of who (Hears heard.Done []) ∷ before) w.goes differs
+          ∙ events_other who other (event_of who (Hears heard.Done [])) before refl differs);
       mine = stand_at false s (line ∷ earlier) now who kind stands;
     }
 
-lined_goes : (evicts : Bool) (s : Setting) (line : Line) (earlier : List Line) (before now : List Happening) → OneThread s now → Woken s (line ∷ earlier) line.actor before now
+lined_goes : (evicts : Bool) (s : Setting) (line : Line) (earlier : List Line) (before now : List ActorEvent) → OneThread s now → WentOn s (line ∷ earlier) line.actor before now
     → is_go line.action ≡ true → is_parked s line.actor before ≡ true → is_evictor (kind_at s.actors line.actor) ≡ evicts
     → Standing evicts s earlier line.actor (events_of line.actor before) (own line.actor (entries before)) → Lined s (line ∷ earlier) line before now
 lined_goes true s line earlier before now one w is held kind st = absurd (let none = ap is_park st.ended in cc)
 lined_goes false s line earlier before now one w is held kind st = lined_wakes s line earlier before now one w is held kind st
 
 -- any line
-lined : (go waits : Bool) (s : Setting) (line : Line) (earlier : List Line) (before now : List Happening) → is_go line.action ≡ go → is_parked s line.actor before ≡ waits
+lined : (go waits : Bool) (s : Setting) (line : Line) (earlier : List Line) (before now : List ActorEvent) → is_go line.action ≡ go → is_parked s line.actor before ≡ waits
     → OneThread s now → may_do (kind_at s.actors line.actor) line.action ≡ true → LineRan s (line ∷ earlier) line go waits before now
     → StandsAt s earlier before line.actor → Lined s (line ∷ earlier) line before now
 lined true true s line earlier before now is held one may ran st =
@@ -460,16 +460,16 @@ lined false true s line earlier before now is held one may ran st =
 lined false false s line earlier before now is held one may ran st =
     lined_begins (is_evictor (kind_at s.actors line.actor)) s line earlier before now one ran is held may refl st
 
-ran_before : (go waits : Bool) (s : Setting) (lines : List Line) (line : Line) (before now : List Happening) → OneThread s now → LineRan s lines line go waits before now → OneThread s before
-ran_before true true s lines line before now one ran = (one_before s ran.more (happens line.actor (Hears heard.Done []) ∷ before) (subst (λ w. OneThread s w) ran.is one)).0
+ran_before : (go waits : Bool) (s : Setting) (lines : List Line) (line : Line) (before now : List ActorEvent) → OneThread s now → LineRan s lines line go waits before now → OneThread s before
+ran_before true true s lines line before now one ran = (one_before s ran.more (event_of line.actor (Hears heard.Done []) ∷ before) (subst (λ w. OneThread s w) ran.is one)).0
 ran_before true false s lines line before now one ran = subst (λ w. OneThread s w) ran one
 ran_before false true s lines line before now one ran = subst (λ w. OneThread s w) ran one
 ran_before false false s lines line before now one ran =
-    (one_before s ran.more (happens line.actor (Begins (OneLine line.action)) ∷ before) (subst (λ w. OneThread s w) ran.is one)).0
+    (one_before s ran.more (event_of line.actor (Begins (OneLine line.action)) ∷ before) (subst (λ w. OneThread s w) ran.is one)).0
 
-record All (s : Setting) (lines : List Line) (world : List Happening) : Type 0 where
-  steps : Steps s lines (moment_in s world) (entries world)
-  stand : (who : ℕ) → StandsAt s lines world who
+record All (s : Setting) (lines : List Line) (history : List ActorEvent) : Type 0 where
+  steps : Steps s lines (moment_in s history) (entries history)
+  stand : (who : ℕ) → StandsAt s lines history who
 
 -- at first
 born_by : (evicts : Bool) (s : Setting) (who : ℕ) → Standing evicts s [] who [] []
@@ -503,7 +503,7 @@ born_by false s who = record {
   };
 }
 
-stand_more : (mine : Bool) (s : Setting) (line : Line) (earlier : List Line) (before now : List Happening) (who : ℕ) → (line.actor == who) ≡ mine
+stand_more : (mine : Bool) (s : Setting) (line : Line) (earlier : List Line) (before now : List ActorEvent) (who : ℕ) → (line.actor == who) ≡ mine
     → Lined s (line ∷ earlier) line before now → StandsAt s earlier before who → StandsAt s (line ∷ earlier) now who
 stand_more true s line earlier before now who is l st =
     let same : line.actor ≡ who = grind (arith, nat_tests) in subst (λ k. StandsAt s (line ∷ earlier) now k) same l.mine
@@ -515,19 +515,19 @@ stand_more false s line earlier before now who differs l st =
     (subst (λ t. Standing (is_evictor (kind_at s.actors who)) s (line ∷ earlier) who (events_of who before) t) (sym kept)
     (stays_by (is_evictor (kind_at s.actors who)) s earlier (line ∷ earlier) who (events_of who before) (own who (entries before)) (given_other who line earlier differs) st))
 
-all_of : (s : Setting) (lines : List Line) (world : List Happening) → OneThread s world → Ran s lines world → All s lines world
-all_of s [] world one ran =
+all_of : (s : Setting) (lines : List Line) (history : List ActorEvent) → OneThread s history → Ran s lines history → All s lines history
+all_of s [] history one ran =
     subst (λ w. All s [] w) (sym ran) (record { steps = (refl, refl); stand = λ who. born_by (is_evictor (kind_at s.actors who)) s who })
-all_of s (line ∷ earlier) world one ran =
+all_of s (line ∷ earlier) history one ran =
     let before = ran.0 in
     let go = is_go line.action in
     let waits = is_parked s line.actor before in
-    let earlier_all = all_of s earlier before (ran_before go waits s (line ∷ earlier) line before world one ran.3) ran.1 in
-    let l = lined go waits s line earlier before world refl refl one ran.2 ran.3 (earlier_all.stand line.actor) in
+    let earlier_all = all_of s earlier before (ran_before go waits s (line ∷ earlier) line before history one ran.4) ran.1 in
+    let l = lined go waits s line earlier before history refl refl one ran.2 ran.4 (earlier_all.stand line.actor) in
     record {
-      steps = (moment_in s before, entries before, earlier_all.steps, l.done, l.moment);
-      stand = λ who. stand_more (line.actor == who) s line earlier before world who refl l (earlier_all.stand who);
+      steps = (moment_in s before, entries before, earlier_all.steps, ran.3, l.done, l.moment);
+      stand = λ who. stand_more (line.actor == who) s line earlier before history who refl l (earlier_all.stand who);
     }
 
 pub steps_follow : StepsFollow
-steps_follow s lines world one ran = (all_of s lines world one ran).steps
+steps_follow s lines history one ran = (all_of s lines history one ran).steps

@@ -12,20 +12,20 @@ use Rattle.up_script.specs.declared.script.Action.TheVariants as actions
 use Rattle.up_script.specs.declared.script.Kind.{Kind}
 use Rattle.up_script.specs.declared.script.Line.{Line}
 use Rattle.up_worker.specs.Calls.{calls_in}
-use Rattle.up_worker.specs.Lives.{Entered, is_evict, OwnEvicts}
-use Rattle.up_worker.specs.Thread.{culls_of}
+use Rattle.up_worker.specs.Courses.{Entered, is_evict, OwnEvicts}
+use Rattle.up_worker.specs.Thread.{reclaims_of}
 use Rattle.up_worker.specs.declared.course.Aim.{Aim}
 use Rattle.up_worker.specs.declared.course.Doing.{Doing}
 use Rattle.up_steps.specs.Asked.{without_evicts, settled_in, ticket_in, AreNext, IsDone}
 use Rattle.up_steps.specs.Laws.{Answered, StepsDecide}
 use Rattle.up_steps.specs.Steps.{Setting, Moment, moment_after, AllBy, EvictsOne, AllMade, OneCall, Evictors, IsFar, GoesFar, Does, Block, LineDone}
 use Rattle.up_steps.specs.Told.{own, last_parks, parked, is_go, given_to, kind_at, objects_at, Told, ToldInPart}
-use Rattle.up_steps.proofs.Aligning.{done_none, Under, told_under_none, under_once, For, told_for_all, part_for}
-use Rattle.up_steps.proofs.Calling.{without_append}
-use Rattle.up_steps.proofs.Chaining.{Chain, decided, Common, commons, same_next}
-use Rattle.up_steps.proofs.Deciding.{Ways, OneWay, Next, next_once, IsCall, AreCalls, whole_chain, some_under}
-use Rattle.up_steps.proofs.Owning.{own_mine}
-use Rattle.up_steps.proofs.Relieving.{Relieved, NextEvict, Evicts, own_evict, relief_of, same_evict, ends_relief}
+use Rattle.up_steps.proofs.EntriesByLines.{done_none, Under, told_under_none, under_once, For, told_for_all, part_for}
+use Rattle.up_steps.proofs.CallsAndEvicts.{without_append}
+use Rattle.up_steps.proofs.GrowingLists.{Chain, decided, Common, commons, same_next}
+use Rattle.up_steps.proofs.OneListOfSteps.{Ways, OneWay, Next, next_once, IsCall, AreCalls, whole_chain, some_under}
+use Rattle.up_steps.proofs.OwnEntries.{own_mine}
+use Rattle.up_steps.proofs.OneRelief.{Relieved, NextEvict, Evicts, own_evict, relief_of, same_evict, ends_relief}
 
 abbrev Rule : Type 0
 Rule = List Entered → ℕ → ℕ → ℕ → Call → Reply
@@ -86,16 +86,16 @@ relief_next : (want : ℕ) (asks : List Ask) (due : Rule) (start : List Entered)
 relief_next want asks due start who epoch c x y one two =
     let same = same_evict want asks c x y one.1 two.1 in same_next due start who epoch c x y one.0 two.0 same.0 same.1
 
-relief_ends : (want : ℕ) (asks : List Ask) (due : Rule) (start : List Entered) (who epoch : ℕ) (c : List Entered) (y : Entered) → Relieved want asks (culls_of c)
+relief_ends : (want : ℕ) (asks : List Ask) (due : Rule) (start : List Entered) (who epoch : ℕ) (c : List Entered) (y : Entered) → Relieved want asks (reclaims_of c)
     → NextOf want asks due start who epoch c y → ⊥
 relief_ends want asks due start who epoch c y done next = ends_relief want asks c y done next.1
 
 relief_once : (want : ℕ) (asks : List Ask) (due : Rule) (start : List Entered) (who epoch : ℕ) (a b : List Entered) → OwnEvicts who a → OwnEvicts who b
-    → Relieves want asks [] (culls_of a) → Relieves want asks [] (culls_of b) → Chain (Common due start who epoch) a → Chain (Common due start who epoch) b → a ≡ b
+    → Relieves want asks [] (reclaims_of a) → Relieves want asks [] (reclaims_of b) → Chain (Common due start who epoch) a → Chain (Common due start who epoch) b → a ≡ b
 relief_once want asks due start who epoch a b own other one two first second =
     let r = relief_of want asks a (own_evict who a own) one in
     let t = relief_of want asks b (own_evict who b other) two in
-    decided (NextOf want asks due start who epoch) (λ c. Relieved want asks (culls_of c)) (relief_next want asks due start who epoch)
+    decided (NextOf want asks due start who epoch) (λ c. Relieved want asks (reclaims_of c)) (relief_next want asks due start who epoch)
     (relief_ends want asks due start who epoch) a b (both_chains want asks due start who epoch a first r.evicts) (both_chains want asks due start who epoch b second t.evicts)
     r.ends t.ends
 
@@ -233,10 +233,10 @@ answered_before due (x ∷ made) start answered = answered_before due made start
 pub steps_decide : StepsDecide
 steps_decide s due [] m k g h one two first second = (one.0 ∙ sym two.0, one.1 ∙ sym two.1)
 steps_decide s due (line ∷ earlier) m k g h one two first second =
-    let a = answered_before due one.3.made one.1 (subst (λ xs. Answered due xs) one.3.is first) in
-    let b = answered_before due two.3.made two.1 (subst (λ xs. Answered due xs) two.3.is second) in
+    let a = answered_before due one.4.made one.1 (subst (λ xs. Answered due xs) one.4.is first) in
+    let b = answered_before due two.4.made two.1 (subst (λ xs. Answered due xs) two.4.is second) in
     let rest = steps_decide s due earlier one.0 two.0 one.1 two.1 one.2 two.2 a b in
     let moved : LineDone s one.0 (line ∷ earlier) line one.1 h =
-    subst (λ t. LineDone s t (line ∷ earlier) line one.1 h) (sym rest.1) (subst (λ xs. LineDone s two.0 (line ∷ earlier) line xs h) (sym rest.0) two.3) in
-    let same = line_done_once s one.0 (line ∷ earlier) due line one.1 g h one.3 moved first second in
-    (same, one.4 ∙ (ap (λ t. moment_after s t line.actor line.action g) rest.1 ∙ (ap (λ xs. moment_after s two.0 line.actor line.action xs) same ∙ sym two.4)))
+    subst (λ t. LineDone s t (line ∷ earlier) line one.1 h) (sym rest.1) (subst (λ xs. LineDone s two.0 (line ∷ earlier) line xs h) (sym rest.0) two.4) in
+    let same = line_done_once s one.0 (line ∷ earlier) due line one.1 g h one.4 moved first second in
+    (same, one.5 ∙ (ap (λ t. moment_after s t line.actor line.action g) rest.1 ∙ (ap (λ xs. moment_after s two.0 line.actor line.action xs) same ∙ sym two.5)))

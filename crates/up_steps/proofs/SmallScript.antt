@@ -1,10 +1,10 @@
--- The small script's happenings, one after the other; and what isn't its steps.
+-- The small script's events, one after the other; and what isn't its steps.
 use Rattle.std.proofs.Common.{◌≡◌, ℕ, ◌++◌, true, false, List, [], ◌∷◌, refl, sym, ap, ◌∙◌, subst, inl, inr, arith, append-nil}
 use Rattle.up_model.specs.declared.entry.Brought.{Brought}
 use Rattle.up_model.specs.declared.entry.Brought.TheVariants.{Nothing, Frames}
 use Rattle.up_model.specs.declared.entry.Call.{Call}
 use Rattle.up_model.specs.declared.entry.Call.TheVariants as calls
-use Rattle.up_worker.specs.Lives.{Entered}
+use Rattle.up_worker.specs.Courses.{Entered}
 use Rattle.up_script.specs.Objects.{is_evictor}
 use Rattle.up_script.specs.declared.script.Kind.TheVariants as kinds
 use Rattle.up_script.specs.declared.script.Line.{Line}
@@ -13,14 +13,14 @@ use Rattle.up_worker.specs.declared.course.Doing.TheVariants.{Idle, OneLine}
 use Rattle.up_steps.specs.Asked.{IsDone, AllBring}
 use Rattle.up_steps.specs.Told.{is_go, parked, kind_at, Told}
 use Rattle.up_steps.specs.Steps.{Moment, AllBy, judge_at, GoesFar, Does, Block, IsFar}
-use Rattle.up_steps.specs.Row.{setting, lines, world, by_line, reading, supplying, supplied_with, supply_line, read_line, blocked, taken, retried, read_bytes, packet_reply, after_read, after_packet, after_supply, IsOneThreads, HasItsSteps, RefusesMore, RefusesOther, RefusesNothing}
-use Rattle.up_steps.specs.World.{happens, OneThread, Ran}
-use Rattle.up_worker.specs.Lives.{Hears}
+use Rattle.up_steps.specs.Row.{setting, lines, history, by_line, reading, supplying, supplied_with, supply_line, read_line, blocked, taken, retried, read_bytes, packet_reply, after_read, after_packet, after_supply, IsOneThreads, HasItsSteps, RefusesMore, RefusesOther, RefusesNothing, TellsNoOthers}
+use Rattle.up_steps.specs.OneThread.{event_of, OneThread, Ran}
+use Rattle.up_worker.specs.Courses.{Hears}
 use Rattle.up_worker.specs.declared.wish.Heard.TheVariants as heard
 use Rattle.up_model.specs.declared.entry.Reply.TheVariants as replies
-use Rattle.up_steps.proofs.Lining.{steps_follow}
+use Rattle.up_steps.proofs.LineBlocks.{steps_follow}
 
-one_thread : OneThread setting world
+one_thread : OneThread setting history
 one_thread = (
   (
     (
@@ -47,7 +47,7 @@ one_thread = (
   record { carries = record { entry = retried.entry; is = refl; by = refl; of_call = refl; told = refl; waits = λ w. absurd cc }; exact = tt; epoch = (refl, tt); fair = (record { parking = λ p. absurd cc; giving = λ e. absurd cc }, tt) },
 )
 
-ran : Ran setting lines world
+ran : Ran setting lines history
 ran = (
   after_supply,
   (
@@ -58,14 +58,17 @@ ran = (
         [],
         refl,
         refl,
-        record { more = happens 0 (Hears (heard.Replied (replies.Blocked 0)) (blocked ∷ [])) ∷ []; is = refl; goes = (tt, refl, refl); answers = (refl, tt); rests = refl },
+        refl,
+        record { more = event_of 0 (Hears (heard.Replied (replies.Blocked 0)) (blocked ∷ [])) ∷ []; is = refl; goes = (tt, refl, refl); answers = (refl, tt); rests = refl },
       ),
       refl,
-      record { more = happens 1 (Hears (heard.Replied packet_reply) (taken ∷ [])) ∷ []; is = refl; goes = (tt, refl, refl); answers = (refl, tt); rests = refl },
+      refl,
+      record { more = event_of 1 (Hears (heard.Replied packet_reply) (taken ∷ [])) ∷ []; is = refl; goes = (tt, refl, refl); answers = (refl, tt); rests = refl },
     ),
     refl,
+    refl,
     record {
-      more = happens 1 (Hears (heard.Replied (replies.Took 1 (0 ∷ []))) (supplied_with (Frames 1) ∷ [])) ∷ happens 1 (Hears (heard.Brought (Frames 1)) []) ∷ [];
+      more = event_of 1 (Hears (heard.Replied (replies.Took 1 (0 ∷ []))) (supplied_with (Frames 1) ∷ [])) ∷ event_of 1 (Hears (heard.Brought (Frames 1)) []) ∷ [];
       is = refl;
       goes = ((tt, refl, refl), refl, refl);
       answers = (refl, (refl, tt));
@@ -73,8 +76,9 @@ ran = (
     },
   ),
   refl,
+  refl,
   record {
-    more = happens 0 (Hears (heard.Replied read_bytes) (retried ∷ [])) ∷ [];
+    more = event_of 0 (Hears (heard.Replied read_bytes) (retried ∷ [])) ∷ [];
     is = refl;
     goes = (tt, refl, refl);
     rests = refl;
@@ -88,7 +92,7 @@ pub is_one_threads : IsOneThreads
 is_one_threads = (one_thread, ran)
 
 pub has_its_steps : HasItsSteps
-has_its_steps = steps_follow setting lines world one_thread ran
+has_its_steps = steps_follow setting lines history one_thread ran
 
 -- the only block of one line is all
 alone : (made start : List Entered) (x : Entered) → x ∷ [] ≡ made ++ start → start ≡ [] → made ≡ x ∷ []
@@ -96,7 +100,7 @@ alone made start x is none = sym (is ∙ (ap (λ xs. made ++ xs) none ∙ append
 
 pub refuses_other : RefusesOther
 refuses_other m steps =
-    let done = steps.3 in
+    let done = steps.4 in
     let made = alone done.made steps.1 _ done.is steps.2.0 in
     let by = subst (λ xs. AllBy 1 xs) made done.by in
     let wrong = by.0 in cc
@@ -124,7 +128,7 @@ supply_brings _ = Nothing
 
 pub refuses_more : RefusesMore
 refuses_more m steps =
-    let done = steps.3 in
+    let done = steps.4 in
     let start = steps.1 in
     let made = alone done.made start _ done.is steps.2.0 in
     let goes = plain_block supply_line (by_line 6 1 supplying) steps.0 start done.made steps.2.0 refl refl done.block in
@@ -136,7 +140,7 @@ refuses_more m steps =
 
 pub refuses_nothing : RefusesNothing
 refuses_nothing m steps =
-    let done = steps.3 in
+    let done = steps.4 in
     let start = steps.1 in
     let made = nothing_left done.made start done.is in
     let goes = plain_block read_line (by_line 6 0 reading) steps.0 start done.made steps.2.0 refl refl done.block in
@@ -148,3 +152,6 @@ refuses_nothing m steps =
     by_end : IsDone (calls_of kinds.User (0 ∷ []) (OneLine reading)) true [] → ⊥
     by_end (inl none) = cc
     by_end (inr refused) = let wrong = refused.1 in cc
+
+pub tells_no_others : TellsNoOthers
+tells_no_others s line earlier m g unplayed steps = let wrong : true ≡ false = sym steps.3 ∙ unplayed in cc

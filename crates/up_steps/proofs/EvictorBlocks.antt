@@ -16,7 +16,7 @@ use Rattle.up_script.specs.declared.script.Kind.TheVariants as kinds
 use Rattle.up_worker.specs.Acting.{Acting, under_way, hears, first_wish, started, next_wish, next_acting}
 use Rattle.up_worker.specs.Calls.{bringing, bare, calls_of, calls_in, vacate_of, is_access, is_access_line, borrows, frames_before}
 use Rattle.up_worker.specs.Frames.{JudgedWish, is_quiet}
-use Rattle.up_worker.specs.Lives.{Entered, Event, Begins, Hears, is_told, Carries, DoneWithout}
+use Rattle.up_worker.specs.Courses.{Entered, Event, Begins, Hears, is_told, Carries, DoneWithout}
 use Rattle.up_worker.specs.Wishes.{settles, is_refused, attempt, act_on, makes, last_of, last_wish, begins_call, unsettled}
 use Rattle.up_worker.specs.declared.course.Aim.{Aim}
 use Rattle.up_worker.specs.declared.course.Doing.TheVariants.{OneLine}
@@ -24,15 +24,15 @@ use Rattle.up_worker.specs.declared.wish.Heard.{Heard}
 use Rattle.up_worker.specs.declared.wish.Heard.TheVariants as heard
 use Rattle.up_worker.specs.declared.wish.Wish.{Wish}
 use Rattle.up_worker.specs.declared.wish.Wish.TheVariants as wishes
-use Rattle.up_worker.proofs.Wished.{asks_again}
+use Rattle.up_worker.proofs.AfterWishes.{asks_again}
 use Rattle.up_steps.specs.Asked.{may_park, without_evicts, AreNext, IsDone}
 use Rattle.up_steps.specs.Steps.{Setting, Moment, moment_after, judge_at, AllBy, AllAt, Stops, AllMade}
 use Rattle.up_steps.specs.Told.{own, last_parks, kind_at, objects_at}
-use Rattle.up_steps.specs.World.{Happening, entries, events_of, said_by, made_by, moment_at, moment_in, actor_at, moment_by, IsCarried, Follows, OneThread, GoesOn, AllAnswers, is_answer, is_park, rests}
-use Rattle.up_steps.proofs.Calling.{without_append}
-use Rattle.up_steps.proofs.Going.{Says, Lasts, Going, ends_after, going_begins, going_hears}
-use Rattle.up_steps.proofs.Owning.{own_mine, all_by, all_at, carries_by, doing_next, objects_stay, events_mine}
-use Rattle.up_steps.proofs.Plainly.{out_after, judged_of}
+use Rattle.up_steps.specs.OneThread.{ActorEvent, entries, events_of, said_by, made_by, moment_at, moment_in, actor_at, moment_by, IsCarried, Follows, OneThread, GoesOn, AllAnswers, is_answer, is_park, rests}
+use Rattle.up_steps.proofs.CallsAndEvicts.{without_append}
+use Rattle.up_steps.proofs.LineEntries.{Says, Lasts, Going, ends_after, going_begins, going_hears}
+use Rattle.up_steps.proofs.OwnEntries.{own_mine, all_by, all_at, carries_by, doing_next, objects_stay, events_mine}
+use Rattle.up_steps.proofs.PlainBlocks.{out_after, judged_of}
 
 abbrev pub is_end : Wish → Bool
 is_end wishes.LineEnd = true
@@ -235,10 +235,10 @@ evictor_more : (s : Setting) (m : Moment) (who : ℕ) (start : List Entered) (ac
 evictor_more s m who start action events g mo (Begins doing) e unless free answers f = absurd cc
 evictor_more s m who start action events g mo (Hears answer made) e unless free answers f = evictor_hears s m who start action events g mo answer made e unless free f
 
-abbrev pub EvictorAt : Setting → Moment → ℕ → List Entered → Action → List Happening → Type 0
+abbrev pub EvictorAt : Setting → Moment → ℕ → List Entered → Action → List ActorEvent → Type 0
 EvictorAt s m who start action w = Evictor s m who start action (events_of who w) (entries w) (moment_in s w)
 
-pub goes_evictor : (s : Setting) (m : Moment) (who : ℕ) (start : List Entered) (action : Action) (more base : List Happening) → is_access_line action ≡ false
+pub goes_evictor : (s : Setting) (m : Moment) (who : ℕ) (start : List Entered) (action : Action) (more base : List ActorEvent) → is_access_line action ≡ false
     → EvictorAt s m who start action base → OneThread s (more ++ base) → GoesOn s who more base → AllAnswers more → EvictorAt s m who start action (more ++ base)
 goes_evictor s m who start action [] base unless e one goes answers = e
 goes_evictor s m who start action (d ∷ more) base unless e one goes answers =

@@ -7,9 +7,9 @@ use Rattle.up_model.specs.declared.entry.Reply.{Reply}
 use Rattle.up_model.specs.declared.entry.Reply.TheVariants as replies
 use Rattle.up_worker.specs.Calls.{bringing, frames_before, borrows}
 use Rattle.up_worker.specs.Frames.{Judge}
-use Rattle.up_worker.specs.Lives.{Entered, is_evict, gives_pages, OwnEvicts}
+use Rattle.up_worker.specs.Courses.{Entered, is_evict, gives_pages, OwnEvicts}
 use Rattle.up_worker.specs.Wishes.{settles, attempt}
-use Rattle.up_worker.proofs.Framing.{same_before}
+use Rattle.up_worker.proofs.BroughtFrames.{same_before}
 use Rattle.up_steps.specs.Asked.{parks, may_park, without_evicts, supplied, AllBring}
 use Rattle.up_steps.specs.Steps.{Stops}
 use Rattle.up_steps.specs.Told.{last_parks}

@@ -11,7 +11,7 @@ use Rattle.up_script.specs.declared.script.Action.TheVariants as actions
 use Rattle.up_script.specs.declared.script.Line.{Line}
 use Rattle.up_worker.specs.Acting.{Acting, started, next_wish}
 use Rattle.up_worker.specs.Frames.{is_quiet}
-use Rattle.up_worker.specs.Lives.{Entered, Event, Begins, Hears, is_evict, gives_pages, is_told, OwnEvicts, Carries}
+use Rattle.up_worker.specs.Courses.{Entered, Event, Begins, Hears, is_evict, gives_pages, is_told, OwnEvicts, Carries}
 use Rattle.up_worker.specs.Wishes.{settles}
 use Rattle.up_worker.specs.declared.course.Doing.TheVariants.{OneLine}
 use Rattle.up_worker.specs.declared.wish.Heard.{Heard}
@@ -20,14 +20,14 @@ use Rattle.up_worker.specs.declared.wish.Wish.{Wish}
 use Rattle.up_worker.specs.declared.wish.Wish.TheVariants as wishes
 use Rattle.up_steps.specs.Steps.{Setting, Moment, moment_after, AllBy, AllAt, Stops, Evictors}
 use Rattle.up_steps.specs.Told.{own, last_parks, kind_at, objects_at}
-use Rattle.up_steps.specs.World.{Happening, happens, entries, events_of, said_by, made_by, moment_by, moment_at, moment_in, AllFair, IsCarried, Follows, OneThread, rests, GoesOn, AllAnswers, is_answer, Began}
-use Rattle.up_steps.proofs.Calling.{evicts_park_none}
-use Rattle.up_steps.proofs.Owning.{own_mine, carries_by, events_mine}
-use Rattle.up_steps.proofs.Plainly.{out_after}
-use Rattle.up_steps.proofs.Evicting.{evictor_no_access, Evictor, EvictorAt, LineMade, evictor_begins, goes_evictor, evictor_ends}
+use Rattle.up_steps.specs.OneThread.{ActorEvent, event_of, entries, events_of, said_by, made_by, moment_by, moment_at, moment_in, AllFair, IsCarried, Follows, OneThread, rests, GoesOn, AllAnswers, is_answer, Began}
+use Rattle.up_steps.proofs.CallsAndEvicts.{evicts_park_none}
+use Rattle.up_steps.proofs.OwnEntries.{own_mine, carries_by, events_mine}
+use Rattle.up_steps.proofs.PlainBlocks.{out_after}
+use Rattle.up_steps.proofs.EvictorBlocks.{evictor_no_access, Evictor, EvictorAt, LineMade, evictor_begins, goes_evictor, evictor_ends}
 
 -- one answer was heard, and the line is done
-pub record OneAnswer (s : Setting) (m : Moment) (who : ℕ) (said : Wish) (events : List Event) (g : List Entered) (w : List Happening) : Type 0 where
+pub record OneAnswer (s : Setting) (m : Moment) (who : ℕ) (said : Wish) (events : List Event) (g : List Entered) (w : List ActorEvent) : Type 0 where
   pub answer : Heard
   pub new : List Entered
   pub carried : IsCarried s m who said answer new g
@@ -43,7 +43,7 @@ EndsBy s m who events g = (answer : Heard) (new : List Entered) → IsCarried s 
 carries_none : (who : ℕ) (said : Wish) (answer : Heard) (new : List Entered) → said ≡ wishes.LineEnd → Carries who said answer new → ⊥
 carries_none who said answer new is does = subst (λ w. Carries who w answer new) is does
 
-answer_first : (s : Setting) (m : Moment) (who : ℕ) (events : List Event) (g : List Entered) (d : Happening) (base : List Happening) (event : Event)
+answer_first : (s : Setting) (m : Moment) (who : ℕ) (events : List Event) (g : List Entered) (d : ActorEvent) (base : List ActorEvent) (event : Event)
     → event ≡ d.event → d.who ≡ who → events_of who base ≡ events → entries base ≡ g → moment_in s base ≡ m
     → is_answer event ≡ true → Follows s m who (out_after s who events).said event g
     → OneAnswer s m who (out_after s who events).said events g (d ∷ base)
@@ -66,8 +66,8 @@ follows_none : (s : Setting) (m : Moment) (who : ℕ) (said : Wish) (event : Eve
 follows_none s m who said (Begins doing) g is answers f = absurd cc
 follows_none s m who said (Hears answer made) g is answers f = carries_none who said answer made is f.carries
 
-one_or_none : (s : Setting) (m : Moment) (who : ℕ) (events : List Event) (g : List Entered) (base : List Happening) → events_of who base ≡ events
-    → entries base ≡ g → moment_in s base ≡ m → EndsBy s m who events g → (more : List Happening) → OneThread s (more ++ base) → GoesOn s who more base
+one_or_none : (s : Setting) (m : Moment) (who : ℕ) (events : List Event) (g : List Entered) (base : List ActorEvent) → events_of who base ≡ events
+    → entries base ≡ g → moment_in s base ≡ m → EndsBy s m who events g → (more : List ActorEvent) → OneThread s (more ++ base) → GoesOn s who more base
     → AllAnswers more → (more ≡ []) ⊎ OneAnswer s m who (out_after s who events).said events g (more ++ base)
 one_or_none s m who events g base here all at ends [] one goes answers = inl refl
 one_or_none s m who events g base here all at ends (d ∷ more) one goes answers =
@@ -94,7 +94,7 @@ one_or_none s m who events g base here all at ends (d ∷ more) one goes answers
         absurd (follows_none s (moment_in s (more ++ base)) who (said_by s who (more ++ base)) d.event (entries (more ++ base)) done answers.0 now)
 
 -- what an evictor's line leaves
-pub record LineDid (s : Setting) (m : Moment) (who : ℕ) (action : Action) (before now : List Happening) : Type 0 where
+pub record LineDid (s : Setting) (m : Moment) (who : ℕ) (action : Action) (before now : List ActorEvent) : Type 0 where
   pub made : List Entered
   pub is : entries now ≡ made ++ entries before
   pub by : AllBy who made
@@ -114,7 +114,7 @@ stops_alone who (x ∷ made) own = (stops_alone who made own.3, parks_none who m
     parks_none who [] own = refl
     parks_none who (x ∷ made) own = evicts_park_none who (x ∷ made) [] own refl
 
-did_evicts : (s : Setting) (m : Moment) (who : ℕ) (action : Action) (said : Wish) (events : List Event) (before now : List Happening)
+did_evicts : (s : Setting) (m : Moment) (who : ℕ) (action : Action) (said : Wish) (events : List Event) (before now : List ActorEvent)
     → (o : OneAnswer s m who said events (entries before) now) → OwnEvicts who o.new
     → Evictors s m (objects_at s.actors who) who action (entries before) o.new
     → said_by s who now ≡ wishes.LineEnd → last_parks (own who (entries before)) ≡ false
@@ -135,14 +135,14 @@ did_evicts s m who action said events before now o evicts does ended tail same a
       moment = o.moment ∙ (same ∙ sym after);
     }
 
-abbrev base_of : ℕ → Action → List Happening → List Happening
-base_of who action before = happens who (Begins (OneLine action)) ∷ before
+abbrev base_of : ℕ → Action → List ActorEvent → List ActorEvent
+base_of who action before = event_of who (Begins (OneLine action)) ∷ before
 
-abbrev begun_of : ℕ → Action → List Happening → List Event
+abbrev begun_of : ℕ → Action → List ActorEvent → List Event
 begun_of who action before = Begins (OneLine action) ∷ events_of who before
 
 -- a line that was begun hears one answer, where each ends it
-one_answer : (s : Setting) (line : Line) (before now : List Happening) → OneThread s now → (b : Began s line before now)
+one_answer : (s : Setting) (line : Line) (before now : List ActorEvent) → OneThread s now → (b : Began s line before now)
     → rests (out_after s line.actor (begun_of line.actor line.action before)).said ≡ false
     → EndsBy s (moment_in s before) line.actor (begun_of line.actor line.action before) (entries before)
     → OneAnswer s (moment_in s before) line.actor (out_after s line.actor (begun_of line.actor line.action before)).said (begun_of line.actor line.action before) (entries before) now
@@ -152,7 +152,7 @@ one_answer s line before now one b restless ends =
     here refl refl ends b.more (subst (λ w. OneThread s w) b.is one) b.goes b.answers))
   where
     here : events_of line.actor (base_of line.actor line.action before) ≡ begun_of line.actor line.action before
-    here = events_mine line.actor (happens line.actor (Begins (OneLine line.action))) before refl
+    here = events_mine line.actor (event_of line.actor (Begins (OneLine line.action))) before refl
 
     some_answer : (b.more ≡ []) ⊎ OneAnswer s (moment_in s before) line.actor (out_after s line.actor (begun_of line.actor line.action before)).said (begun_of line.actor line.action before) (entries before) (b.more ++ base_of line.actor line.action before)
         → OneAnswer s (moment_in s before) line.actor (out_after s line.actor (begun_of line.actor line.action before)).said (begun_of line.actor line.action before) (entries before) (b.more ++ base_of line.actor line.action before)
@@ -163,7 +163,7 @@ one_answer s line before now one b restless ends =
         let known : rests (out_after s line.actor (begun_of line.actor line.action before)).said ≡ true = subst (λ es. rests (out_after s line.actor es).said ≡ true) here there in
         absurd cc
 
-ended_after : (s : Setting) (m : Moment) (who : ℕ) (action : Action) (before now : List Happening)
+ended_after : (s : Setting) (m : Moment) (who : ℕ) (action : Action) (before now : List ActorEvent)
     → (o : OneAnswer s m who (out_after s who (begun_of who action before)).said (begun_of who action before) (entries before) now)
     → EndsBy s m who (begun_of who action before) (entries before) → said_by s who now ≡ wishes.LineEnd
 ended_after s m who action before now o ends = ap (λ es. (out_after s who es).said) o.heard ∙ ends o.answer o.new o.carried
@@ -171,7 +171,7 @@ ended_after s m who action before now o ends = ap (λ es. (out_after s who es).s
 abbrev line_of : ℕ → ℕ → Action → Line
 line_of number who action = record { number = number; actor = who; action = action }
 
-did_relieve : (s : Setting) (number who frames : ℕ) (before now : List Happening) → OneThread s now → Began s (line_of number who (actions.Relieve frames)) before now
+did_relieve : (s : Setting) (number who frames : ℕ) (before now : List ActorEvent) → OneThread s now → Began s (line_of number who (actions.Relieve frames)) before now
     → last_parks (own who (entries before)) ≡ false → LineDid s (moment_in s before) who (actions.Relieve frames) before now
 did_relieve s number who frames before now one b tail =
     let ends : EndsBy s (moment_in s before) who (begun_of who (actions.Relieve frames) before) (entries before) =
@@ -180,7 +180,7 @@ did_relieve s number who frames before now one b tail =
     did_evicts s (moment_in s before) who (actions.Relieve frames) (wishes.Relieve frames) (begun_of who (actions.Relieve frames) before) before now o
     o.carried.carries.1 (o.carried.carries.1, o.carried.exact) (ended_after s (moment_in s before) who (actions.Relieve frames) before now o ends) tail refl refl
 
-did_watch : (s : Setting) (number who : ℕ) (before now : List Happening) → OneThread s now → Began s (line_of number who actions.Watch) before now
+did_watch : (s : Setting) (number who : ℕ) (before now : List ActorEvent) → OneThread s now → Began s (line_of number who actions.Watch) before now
     → last_parks (own who (entries before)) ≡ false → LineDid s (moment_in s before) who actions.Watch before now
 did_watch s number who before now one b tail =
     let ends : EndsBy s (moment_in s before) who (begun_of who actions.Watch before) (entries before) =
@@ -218,7 +218,7 @@ evict_settles who object limit most answer new fair does =
     let one : AllFair (x ∷ []) = subst AllFair does.is fair in
     pages_settle does.entry.reply (one.0.giving (ap is_evict does.of_call))
 
-did_evict : (s : Setting) (number who object limit most : ℕ) (before now : List Happening) → OneThread s now → Began s (line_of number who (evict_line object limit most)) before now
+did_evict : (s : Setting) (number who object limit most : ℕ) (before now : List ActorEvent) → OneThread s now → Began s (line_of number who (evict_line object limit most)) before now
     → last_parks (own who (entries before)) ≡ false → LineDid s (moment_in s before) who (evict_line object limit most) before now
 did_evict s number who object limit most before now one b tail =
     let action = evict_line object limit most in
@@ -233,14 +233,14 @@ did_evict s number who object limit most before now one b tail =
     (ended_after s (moment_in s before) who action before now o ends) tail refl refl
 
 -- a line by calls
-made_by_calls : (s : Setting) (number who : ℕ) (action : Action) (before now : List Happening) → OneThread s now → Began s (line_of number who action) before now
+made_by_calls : (s : Setting) (number who : ℕ) (action : Action) (before now : List ActorEvent) → OneThread s now → Began s (line_of number who action) before now
     → is_told (OneLine action) ≡ true → is_quiet (OneLine action) ≡ true → is_evictor (kind_at s.actors who) ≡ true → may_do (kind_at s.actors who) action ≡ true
     → last_parks (own who (entries before)) ≡ false
     → LineMade s (moment_in s before) who (entries before) action (events_of who now) (entries now) (moment_in s now)
 made_by_calls s number who action before now one b told calm evicts may tail =
     let m = moment_in s before in
     let base = base_of who action before in
-    let here : events_of who base ≡ begun_of who action before = events_mine who (happens who (Begins (OneLine action))) before refl in
+    let here : events_of who base ≡ begun_of who action before = events_mine who (event_of who (Begins (OneLine action))) before refl in
     let first = subst (λ es. Evictor s m who (entries before) action es (entries before) m) (sym here)
     (evictor_begins s m who action (events_of who before) (entries before) told calm tail) in
     let goes = goes_evictor s m who (entries before) action b.more base (evictor_no_access (kind_at s.actors who) action evicts may) first
@@ -249,7 +249,7 @@ made_by_calls s number who action before now one b told calm evicts may tail =
     subst (λ w. EvictorAt s m who (entries before) action w) (sym b.is) goes in
     evictor_ends s m who (entries before) action (events_of who now) (entries now) (moment_in s now) last b.rests evicts may
 
-did_calls : (s : Setting) (who : ℕ) (action : Action) (before now : List Happening)
+did_calls : (s : Setting) (who : ℕ) (action : Action) (before now : List ActorEvent)
     → (l : LineMade s (moment_in s before) who (entries before) action (events_of who now) (entries now) (moment_in s now))
     → Evictors s (moment_in s before) (objects_at s.actors who) who action (entries before) l.made → LineDid s (moment_in s before) who action before now
 did_calls s who action before now l does = record {
@@ -264,7 +264,7 @@ did_calls s who action before now l does = record {
   moment = l.moment;
 }
 
-did_call : (s : Setting) (number who object : ℕ) (call : Call) (before now : List Happening) → OneThread s now → Began s (line_of number who (actions.Act object call)) before now
+did_call : (s : Setting) (number who object : ℕ) (call : Call) (before now : List ActorEvent) → OneThread s now → Began s (line_of number who (actions.Act object call)) before now
     → is_evictor (kind_at s.actors who) ≡ true → may_do (kind_at s.actors who) (actions.Act object call) ≡ true
     → last_parks (own who (entries before)) ≡ false → LineDid s (moment_in s before) who (actions.Act object call) before now
 did_call s number who object (calls.Evict limit most) before now one b evicts may tail = did_evict s number who object limit most before now one b tail
@@ -273,7 +273,7 @@ did_call s number who object call before now one b evicts may tail =
     let l = made_by_calls s number who (actions.Act object call) before now one b refl refl evicts may tail in
     did_calls s who (actions.Act object call) before now l l.all
 
-pub line_did : (s : Setting) (number who : ℕ) (action : Action) (before now : List Happening) → OneThread s now → Began s (line_of number who action) before now
+pub line_did : (s : Setting) (number who : ℕ) (action : Action) (before now : List ActorEvent) → OneThread s now → Began s (line_of number who action) before now
     → is_evictor (kind_at s.actors who) ≡ true → may_do (kind_at s.actors who) action ≡ true
     → last_parks (own who (entries before)) ≡ false → LineDid s (moment_in s before) who action before now
 line_did s number who (actions.Relieve frames) before now one b evicts may tail = did_relieve s number who frames before now one b tail

@@ -13,8 +13,8 @@ use Rattle.up_script.specs.declared.script.Action.{Action}
 use Rattle.up_script.specs.declared.script.Action.TheVariants as actions
 use Rattle.up_worker.specs.Acting.{Acting, under_way, first_wish, started, next_wish, next_acting}
 use Rattle.up_worker.specs.Calls.{bringing, calls_of, borrows, frames_before, is_access}
-use Rattle.up_worker.specs.Frames.{Judge, JudgedWish, is_quiet, front, behind, asked, needed}
-use Rattle.up_worker.specs.Lives.{Entered, is_evict, is_told, is_retry, is_waiting, OwnEvicts, MakesOne, ResizesOne, DoneWithout, Carries}
+use Rattle.up_worker.specs.Frames.{Judge, JudgedWish, is_quiet, front, behind, asked_by_last, needed}
+use Rattle.up_worker.specs.Courses.{Entered, is_evict, is_told, is_retry, is_waiting, OwnEvicts, MakesOne, ResizesOne, DoneWithout, Carries}
 use Rattle.up_worker.specs.Wishes.{settles, is_refused, ticket_after, attempt, act_on, makes, last_of, last_wish, begins_call, unsettled}
 use Rattle.up_worker.specs.declared.course.Aim.{Aim}
 use Rattle.up_worker.specs.declared.course.Doing.{Doing}
@@ -23,24 +23,24 @@ use Rattle.up_worker.specs.declared.wish.Heard.{Heard}
 use Rattle.up_worker.specs.declared.wish.Heard.TheVariants as heard
 use Rattle.up_worker.specs.declared.wish.Wish.{Wish}
 use Rattle.up_worker.specs.declared.wish.Wish.TheVariants as wishes
-use Rattle.up_worker.proofs.Framing.{front_is, behind_same, behind_is, not_front, settled_unasked, wish_settled}
-use Rattle.up_worker.proofs.Ruling.{after_unsettled}
-use Rattle.up_worker.proofs.Saying.{bringing_again, good, is_for, access_keeps, resize_attempted}
-use Rattle.up_worker.proofs.Telling.{no_ticket, or_none, both_left, both_right, one_fails}
-use Rattle.up_worker.proofs.Wished.{asks_again}
+use Rattle.up_worker.proofs.BroughtFrames.{front_is, behind_same, behind_is, not_front, settled_unasked, wish_settled}
+use Rattle.up_worker.proofs.CourseRules.{after_unsettled}
+use Rattle.up_worker.proofs.StandingWishes.{bringing_again, good, is_for, access_keeps, resize_attempted}
+use Rattle.up_worker.proofs.CourseTold.{no_ticket, or_none, both_left, both_right, one_fails}
+use Rattle.up_worker.proofs.AfterWishes.{asks_again}
 use Rattle.up_steps.specs.Asked.{parks, may_park, without_evicts, settled_in, ticket_in, refused_in, IsNext, AreNext, IsDone, supplied, or_supplied, wanted, Comes, Brings, AllBring}
 use Rattle.up_steps.specs.Steps.{Stops}
 use Rattle.up_steps.specs.Told.{last_parks}
-use Rattle.up_steps.specs.World.{AllFair, is_park}
-use Rattle.up_steps.proofs.Calling.{supplied_none, parks_supplies_none, supplies_some, supplies_borrow_none, made_before, made_borrows, made_parks, settled_parks_none, evicts_gone, one_stays, evicts_bring, evicts_park_none, evicts_stop}
+use Rattle.up_steps.specs.OneThread.{AllFair, is_park}
+use Rattle.up_steps.proofs.CallsAndEvicts.{supplied_none, parks_supplies_none, supplies_some, supplies_borrow_none, made_before, made_borrows, made_parks, settled_parks_none, evicts_gone, one_stays, evicts_bring, evicts_park_none, evicts_stop}
 
 abbrev pub aims : Acting → List Aim
 aims a = calls_of a.kind a.objects a.doing
 
--- no evicts stand last in the block, and no frames are asked for
+-- no evicts stand last in the block, and no frames are asked_by_last for
 pub record Quiet (made : List Entered) : Type 0 where
   pub none : front made ≡ []
-  pub unasked : asked made ≡ None
+  pub unasked : asked_by_last made ≡ None
 
 -- no call of an access was refused
 abbrev pub Free : Acting → List Entered → Type 0
@@ -124,7 +124,7 @@ says_act j start a now made t object (calls.Resize pages) acts = acts
 says_act j start a now made t object call acts = acts
 
 quiet_wants : (made : List Entered) (call : Call) → Quiet made → wanted made call ≡ supplied call
-quiet_wants made call quiet = ap (λ xs. or_supplied (asked xs) call) (behind_same made quiet.none) ∙ ap (λ m. or_supplied m call) quiet.unasked
+quiet_wants made call quiet = ap (λ xs. or_supplied (asked_by_last xs) call) (behind_same made quiet.none) ∙ ap (λ m. or_supplied m call) quiet.unasked
 
 comes_bare : (j : Judge) (start made : List Entered) (call : Call) → Quiet made → supplied call ≡ None → Comes j start made (borrows call) (wanted made call) Nothing
 comes_bare j start made call quiet none =
@@ -223,7 +223,7 @@ record Known (j : Judge) (start : List Entered) (a : Acting) (now made : List En
   retries : is_retry x.entry.call ≡ true → is_some a.ticket ≡ true
 
 pub same_wanted : (made : List Entered) (call other : Call) → frames_before call ≡ frames_before other → wanted made call ≡ wanted made other
-same_wanted made call other same = by_asked (asked (behind made)) call other same
+same_wanted made call other same = by_asked (asked_by_last (behind made)) call other same
   where
     by_asked : (m : Option ℕ) (call other : Call) → frames_before call ≡ frames_before other → or_supplied m call ≡ or_supplied m other
     by_asked None call other same = ap (λ n. cond (n == 0) None (Some n)) same
@@ -293,11 +293,11 @@ says_lent false j start a now made t one count lends way none wants free =
     record { one = one; way = way; lends = lends; count_is = wants; none = none; free = free }
 
 says_unsettled : (j : Judge) (start : List Entered) (a : Acting) (now made t : List Entered) (one : Aim) (reply : Reply) → settles reply ≡ false
-    → under_way a ≡ Some one → front made ≡ [] → asked made ≡ needed reply → last_parks t ≡ parks reply → Free a now
+    → under_way a ≡ Some one → front made ≡ [] → asked_by_last made ≡ needed reply → last_parks t ≡ parks reply → Free a now
     → (parks reply ≡ true → is_some a.ticket ≡ true) → Says j start a now made t (unsettled (Some one) reply)
 says_unsettled j start a now made t one (replies.Needs m) unmet way none asks tail free ticketed =
     says_lent (borrows one.call) j start a now made t one m refl way none
-    (ap (λ xs. or_supplied (asked xs) one.call) (behind_same made none) ∙ ap (λ k. or_supplied k one.call) asks) free
+    (ap (λ xs. or_supplied (asked_by_last xs) one.call) (behind_same made none) ∙ ap (λ k. or_supplied k one.call) asks) free
 says_unsettled j start a now made t one (replies.Blocked u) unmet way none asks tail free ticketed =
     record { one = one; way = way; ticketed = ticketed refl; quiet = record { none = none; unasked = asks }; free = free; tail = tail }
 says_unsettled j start a now made t one replies.Waiting unmet way none asks tail free ticketed =
@@ -461,7 +461,7 @@ comes_gathered : (j : Judge) (start made new : List Entered) (who count : ℕ) (
     → wanted made call ≡ Some count → j.gathers count b new (made ++ start) → Comes j start (new ++ made) (borrows call) (wanted (new ++ made) call) b
 comes_gathered j start made new who count b call own none lends wants gathers =
     let same : wanted (new ++ made) call ≡ Some count =
-    ap (λ xs. or_supplied (asked xs) call) (behind_is who new made own none ∙ sym (behind_same made none)) ∙ wants in
+    ap (λ xs. or_supplied (asked_by_last xs) call) (behind_is who new made own none ∙ sym (behind_same made none)) ∙ wants in
     subst (λ l. Comes j start (new ++ made) l (wanted (new ++ made) call) b) (sym lends)
     (subst (λ w. Comes j start (new ++ made) false w b) (sym same)
     (subst (λ xs. j.gathers count b xs (behind (new ++ made) ++ start)) (sym (front_is who new made own none))

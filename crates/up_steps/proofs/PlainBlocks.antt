@@ -11,7 +11,7 @@ use Rattle.up_model.specs.declared.entry.Call.TheVariants as calls
 use Rattle.up_worker.specs.Acting.{Acting, next_wish, next_acting}
 use Rattle.up_worker.specs.Calls.{calls_of, is_access}
 use Rattle.up_worker.specs.Frames.{JudgedWish, is_quiet}
-use Rattle.up_worker.specs.Lives.{Entered, Event, Begins, Hears, Out, leads, lines as begun, is_told}
+use Rattle.up_worker.specs.Courses.{Entered, Event, Begins, Hears, Out, leads, lines as begun, is_told}
 use Rattle.up_worker.specs.Thread.{DoneExactly}
 use Rattle.up_worker.specs.Wishes.{last_wish}
 use Rattle.up_worker.specs.declared.course.Doing.{Doing}
@@ -22,10 +22,10 @@ use Rattle.up_worker.specs.declared.wish.Wish.TheVariants as wishes
 use Rattle.up_steps.specs.Asked.{without_evicts, AreNext, IsDone}
 use Rattle.up_steps.specs.Steps.{Setting, Moment, judge_at, AllBy, AllAt}
 use Rattle.up_steps.specs.Told.{own, kind_at, objects_at, Told}
-use Rattle.up_steps.specs.World.{actor_at, made_by, moment_by, moment_at, IsCarried, Follows, is_park}
-use Rattle.up_steps.proofs.Calling.{without_append}
-use Rattle.up_steps.proofs.Going.{Says, Going, going_begins, going_hears}
-use Rattle.up_steps.proofs.Owning.{own_mine, all_by, all_at, carries_by, doing_next, kind_stays, objects_stay}
+use Rattle.up_steps.specs.OneThread.{actor_at, made_by, moment_by, moment_at, IsCarried, Follows, is_park}
+use Rattle.up_steps.proofs.CallsAndEvicts.{without_append}
+use Rattle.up_steps.proofs.LineEntries.{Says, Going, going_begins, going_hears}
+use Rattle.up_steps.proofs.OwnEntries.{own_mine, all_by, all_at, carries_by, doing_next, kind_stays, objects_stay}
 
 -- a line of an actor that is no evictor: its calls are told by their entries, and nothing is behind them
 pub record IsPlain (doing : Doing) : Type 0 where

@@ -2,14 +2,14 @@
 use Rattle.std.proofs.Common.{◌≡◌, ℕ, ◌==◌, ◌++◌, true, false, List, [], ◌∷◌, refl, sym, ap, ◌∙◌, subst, arith}
 use Rattle.std.proofs.lemmas.Bool.Decides.{nat_tests}
 use Rattle.up_worker.specs.Acting.{Acting, next_acting}
-use Rattle.up_worker.specs.Lives.{Entered, Event, Begins, Hears, leads, OwnEvicts, Carries}
+use Rattle.up_worker.specs.Courses.{Entered, Event, Begins, Hears, leads, OwnEvicts, Carries}
 use Rattle.up_worker.specs.declared.wish.Heard.{Heard}
 use Rattle.up_worker.specs.declared.wish.Heard.TheVariants as heard
 use Rattle.up_worker.specs.declared.wish.Wish.{Wish}
 use Rattle.up_worker.specs.declared.wish.Wish.TheVariants as wishes
 use Rattle.up_steps.specs.Steps.{AllBy, AllAt}
 use Rattle.up_steps.specs.Told.{own}
-use Rattle.up_steps.specs.World.{Happening, events_of}
+use Rattle.up_steps.specs.OneThread.{ActorEvent, events_of}
 
 pub same_test : (n m : ℕ) → n ≡ m → (n == m) ≡ true
 same_test n m is = grind (arith, nat_tests)
@@ -52,10 +52,10 @@ carries_by who wishes.Watch answer made does = evicts_by who made does.1
 carries_by who (wishes.Site object step) answer made does = absurd does
 carries_by who wishes.LineEnd answer made does = absurd does
 
-pub events_mine : (who : ℕ) (d : Happening) (before : List Happening) → d.who ≡ who → events_of who (d ∷ before) ≡ d.event ∷ events_of who before
+pub events_mine : (who : ℕ) (d : ActorEvent) (before : List ActorEvent) → d.who ≡ who → events_of who (d ∷ before) ≡ d.event ∷ events_of who before
 events_mine who d before is = let mine = same_test d.who who is in rw mine refl
 
-pub events_other : (who other : ℕ) (d : Happening) (before : List Happening) → d.who ≡ who → (who == other) ≡ false → events_of other (d ∷ before) ≡ events_of other before
+pub events_other : (who other : ℕ) (d : ActorEvent) (before : List ActorEvent) → d.who ≡ who → (who == other) ≡ false → events_of other (d ∷ before) ≡ events_of other before
 events_other who other d before is differs = let theirs : (d.who == other) ≡ false = ap (λ w. w == other) is ∙ differs in rw theirs refl
 
 -- an actor stays of its kind, on its objects

@@ -3,11 +3,11 @@ use Rattle.std.proofs.Common.{◌≡◌, ℕ, zero, suc, ◌+◌, ◌≤◌, ◌
 use Rattle.up_script.specs.declared.script.Kind.{Kind}
 use Rattle.up_model.specs.declared.entry.Brought.{Brought}
 use Rattle.up_worker.specs.Calls.{bringing, calls_of, is_access}
-use Rattle.up_worker.specs.Lives.{Entered}
+use Rattle.up_worker.specs.Courses.{Entered}
 use Rattle.up_worker.specs.Wishes.{settles, is_refused, attempt}
 use Rattle.up_worker.specs.declared.course.Aim.{Aim}
 use Rattle.up_worker.specs.declared.course.Doing.{Doing}
-use Rattle.up_worker.proofs.Telling.{or_some}
+use Rattle.up_worker.proofs.CourseTold.{or_some}
 use Rattle.up_steps.specs.Asked.{settled_in, ticket_in, refused_in, IsNext, AreNext, IsDone}
 use Rattle.up_steps.specs.Told.{Told, ToldInPart}
 

@@ -1,0 +1,3 @@
+mod Aging
+mod Joining
+mod Lived

@@ -1,0 +1,4 @@
+pub mod Tales
+pub mod Beside
+pub mod Plays
+pub mod Life
