@@ -10,9 +10,9 @@ use Rattle.up_object.specs.Change.{AllAre}
 use Rattle.up_hands.specs.Handed.{InHand}
 use Rattle.up_hands.specs.Keeping.{at_home, kind_lent}
 use Rattle.up_hands.specs.Machined.{Machined, owned}
-use Rattle.up_hands.specs.Pools.{Pooled, banks_of, stored, pool_without}
-use Rattle.up_hands.proofs.Carrying.{handed}
-use Rattle.up_hands.proofs.Owned.{all_of, none_loaned, none_ordinary}
+use Rattle.up_banks.specs.Pools.{Pooled, banks_of, stored, pool_without}
+use Rattle.up_hands.proofs.WishesDone.{handed}
+use Rattle.up_banks.proofs.Owned.{all_of, none_loaned, none_ordinary}
 
 -- frames of a kind that were claimed, with those at home, are those that were at home
 pub claimed : (kind k : FrameKind) (pool : Pooled) (items : List Frame) → pool.ordinary.bank.kind ≡ Ordinary → pool.loaned.bank.kind ≡ Loaned → AllAre (bank_of (banks_of pool) kind) items →

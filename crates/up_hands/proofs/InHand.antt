@@ -10,7 +10,7 @@ use Rattle.up_object.specs.declared.step.FramesIn.{FramesIn}
 use Rattle.up_object.specs.declared.step.FramesIn.TheVariants.{NoneYet, Given, Scanned as ScannedIn}
 use Rattle.up_object.specs.Parts.{BankPair, bank_of}
 use Rattle.up_object.specs.Change.{AllAre}
-use Rattle.up_object.specs.Steps.{brought_count, brought_of, frames_of}
+use Rattle.up_object.specs.OneCall.{brought_count, brought_of, frames_of}
 use Rattle.up_core.specs.Requests.{brought_in, kind_taken, Agrees}
 use Rattle.up_worker.specs.Calls.{borrows}
 use Rattle.up_hands.specs.Handed.{InHand, empty_hand}

@@ -8,7 +8,7 @@ use Rattle.up_model.specs.declared.entry.Brought.{Brought}
 use Rattle.up_model.specs.declared.entry.Brought.TheVariants.{Nothing}
 use Rattle.up_core.specs.Requests.{brought_in}
 use Rattle.up_worker.specs.Calls.{borrows}
-use Rattle.up_worker.specs.Lives.{Entered, Carries}
+use Rattle.up_worker.specs.Courses.{Entered, Carries}
 use Rattle.up_worker.specs.Thread.{DoneExactly}
 use Rattle.up_worker.specs.declared.wish.Heard.{Heard}
 use Rattle.up_worker.specs.declared.wish.Heard.TheVariants as heard
@@ -89,8 +89,8 @@ pub record CarriedOut (births : List Birth) (old new : Handed) (who : ℕ) (wish
   pub epoch : AllAt old.ages made
 
 -- where a wish was carried out, for all births and entries for which the objects stood before
-abbrev pub Done : {E : Type 0} → Handed → Handed → ℕ → Wish → Result Heard E → Type 0
-Done old new who wish result =
+abbrev pub DoesWish : {E : Type 0} → Handed → Handed → ℕ → Wish → Result Heard E → Type 0
+DoesWish old new who wish result =
     IfOk result (λ heard. (births : List Birth) (g : List Entered) → old.lives ≡ lives_of births g → CarriedOut births old new who wish heard g)
 
 -- births and the number of actors stay

@@ -2,7 +2,7 @@
 use Rattle.std.specs.Prelude.{ℕ, List, [], ◌∷◌, zero, suc}
 use Rattle.up_model.specs.Legal.{Life}
 use Rattle.up_model.specs.declared.entry.Entry.{Entry}
-use Rattle.up_worker.specs.Lives.{Entered}
+use Rattle.up_worker.specs.Courses.{Entered}
 
 -- one more entry of an object
 abbrev pub enter_at : ℕ → Entry → List Life → List Life

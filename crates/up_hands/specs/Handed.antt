@@ -10,7 +10,7 @@ use Rattle.up_model.specs.declared.entry.Brought.TheVariants.{Nothing}
 use Rattle.up_model.specs.declared.entry.Entry.{Entry}
 use Rattle.up_object.specs.Whole.{held}
 use Rattle.up_evictor.specs.declared.levels.Levels.{Levels}
-use Rattle.up_worker.specs.Lives.{Entered}
+use Rattle.up_worker.specs.Courses.{Entered}
 use Rattle.up_worker.specs.Thread.{of_object}
 
 -- what was brought for the next call, and whether that is a loaned frame, or a scan for one

@@ -11,8 +11,8 @@ use Rattle.up_object.specs.Change.{AllAre}
 use Rattle.up_evictor.specs.Levels.{age_limits}
 use Rattle.up_evictor.specs.Relief.{Relieves, turns}
 use Rattle.up_evictor.specs.declared.levels.Level.{Level}
-use Rattle.up_worker.specs.Lives.{Entered, OwnEvicts}
-use Rattle.up_worker.specs.Thread.{culls_of}
+use Rattle.up_worker.specs.Courses.{Entered, OwnEvicts}
+use Rattle.up_worker.specs.Thread.{reclaims_of}
 use Rattle.up_worker.specs.declared.wish.Heard.{Heard}
 use Rattle.up_worker.specs.declared.wish.Heard.TheVariants as heard
 use Rattle.up_hands.specs.Handed.{Handed, held_in}
@@ -51,4 +51,4 @@ pub record Eased (old new : Handed) (who want : ℕ) (level : Level) : Type 0 wh
   pub now : new ≡ record old { lives = enter_all made old.lives }
   pub own : OwnEvicts who made
   pub epoch : AllAt old.ages made
-  pub asked : Relieves want (turns (age_limits level) (length old.lives)) [] (culls_of made)
+  pub asked : Relieves want (turns (age_limits level) (length old.lives)) [] (reclaims_of made)

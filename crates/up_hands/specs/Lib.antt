@@ -1,11 +1,8 @@
 pub mod Handed
 pub mod Carried
 pub mod Entering
-pub mod Pools
-pub mod Soles
-pub mod Paired
 pub mod Machines
 pub mod Machined
-pub mod Flocks
+pub mod Reliefs
 pub mod Keeping
 pub mod Standing

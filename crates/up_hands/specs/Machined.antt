@@ -9,14 +9,14 @@ use Rattle.up_object.specs.Parts.{BankPair}
 use Rattle.up_object.specs.Whole.{Whole}
 use Rattle.up_evictor.specs.Levels.{age_limits}
 use Rattle.up_evictor.specs.Relief.{Relieves, turns}
-use Rattle.up_evictor.specs.declared.herd.Cull.{Cull}
+use Rattle.up_evictor.specs.declared.herd.Reclaim.{Reclaim}
 use Rattle.up_evictor.specs.declared.levels.Level.{Level}
-use Rattle.up_worker.specs.Lives.{Entered, OwnEvicts}
-use Rattle.up_worker.specs.Thread.{culls_of}
+use Rattle.up_worker.specs.Courses.{Entered, OwnEvicts}
+use Rattle.up_worker.specs.Thread.{reclaims_of}
 use Rattle.up_hands.specs.Handed.{held_in, births_in}
 use Rattle.up_hands.specs.Carried.{AllAt}
 use Rattle.up_hands.specs.Entering.{enter, enter_all}
-use Rattle.up_hands.specs.Pools.{Pooled, banks_of, stored}
+use Rattle.up_banks.specs.Pools.{Pooled, banks_of, stored}
 
 -- each object's birth and journal, the frames at home, and what the clock shows
 pub record Machined : Type 0 where
@@ -62,17 +62,17 @@ pub record Evicted (old new : Machined) (who : ℕ) (made : List Entered) : Type
 pub record ReliefMade (old new : Machined) (who want : ℕ) (level : Level) : Type 0 where
   pub made : List Entered
   pub evicted : Evicted old new who made
-  pub asked : Relieves want (turns (age_limits level) (length old.lives)) [] (culls_of made)
+  pub asked : Relieves want (turns (age_limits level) (length old.lives)) [] (reclaims_of made)
 
 -- a relief has come so far: from where, to where, in whose name, and what was asked for and given, newest first
-pub record Gone : Type 0 where
+pub record ReliefSoFar : Type 0 where
   pub start : Machined
   pub now : Machined
   pub who : ℕ
-  pub culls : List Cull
+  pub reclaims : List Reclaim
 
 -- these evicts were made so far
-pub record WentSoFar (gone : Gone) : Type 0 where
+pub record WentSoFar (gone : ReliefSoFar) : Type 0 where
   pub made : List Entered
   pub evicted : Evicted gone.start gone.now gone.who made
-  pub culled : culls_of made ≡ gone.culls
+  pub reclaimed : reclaims_of made ≡ gone.reclaims

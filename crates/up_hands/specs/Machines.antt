@@ -4,7 +4,7 @@ use Rattle.up_bank.specs.declared.kind.FrameKind.TheVariants.{Ordinary, Loaned}
 use Rattle.up_object.specs.Whole.{life_of}
 use Rattle.up_hands.specs.Handed.{AllLegal}
 use Rattle.up_hands.specs.Machined.{AllOf}
-use Rattle.up_hands.specs.Pools.{banks_of}
+use Rattle.up_banks.specs.Pools.{banks_of}
 use Rattle.up_hands.specs.declared.machine.Machine.TheInside.{Inside}
 
 -- the objects' frames are the pool's, their journals are legal, and the clock has one seat, which is here

@@ -4,9 +4,9 @@ use Rattle.up_bank.specs.declared.kind.FrameKind.TheVariants.{Ordinary, Loaned}
 use Rattle.up_pages.specs.Frames.{count_kind}
 use Rattle.up_object.specs.Parts.{bank_of}
 use Rattle.up_object.specs.Change.{AllAre}
-use Rattle.up_object.specs.Steps.{frames_of}
+use Rattle.up_object.specs.OneCall.{frames_of}
 use Rattle.up_hands.specs.Machined.{owned}
-use Rattle.up_hands.specs.Pools.{banks_of}
+use Rattle.up_banks.specs.Pools.{banks_of}
 use Rattle.up_hands.specs.Keeping.{AllKept, counts_of, kind_lent}
 use Rattle.up_hands.specs.declared.hands.Hands.TheInside.{Inside}
 

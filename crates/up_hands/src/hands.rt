@@ -1,4 +1,4 @@
-ghost use Rattle.std.specs.Prelude.{◌≡◌, ◌+◌, ◌<◌, ◌≤◌, ◌^◌, [], true, length, map, min, replicate, slice_index, slice_set, IfOk, IfSome, OnOk, OnErr, None};
+ghost use Rattle.std.specs.Prelude.{◌≡◌, ◌+◌, ◌<◌, ◌≤◌, ◌^◌, true, length, map, min, replicate, slice_index, slice_set, IfOk, IfSome, OnOk, OnErr, None};
 ghost use Rattle.std.specs.List.{list_all};
 ghost use Rattle.up_bank.specs.Standing.{BankId};
 ghost use Rattle.up_bank.specs.declared.kind.FrameKind.TheVariants.{Ordinary as OrdinaryKind, Loaned as LoanedKind};
@@ -7,11 +7,11 @@ ghost use Rattle.up_worker.specs.declared.wish.Heard.TheVariants.{Done as DoneHe
 ghost use Rattle.up_object.specs.Parts.{is_loan};
 ghost use Rattle.up_worker.specs.declared.wish.Wish.TheVariants as wishes;
 ghost use Rattle.up_hands.specs.Handed.{empty_hand, births_in, new_life, ends_of, is_fair, AllLegal};
-ghost use Rattle.up_hands.specs.Carried.{is_done_here, object_of, hand_for, hand_after, IsProper, AsksForSome, Done, SameShape};
+ghost use Rattle.up_hands.specs.Carried.{is_done_here, object_of, hand_for, hand_after, IsProper, AsksForSome, DoesWish, SameShape};
 ghost use Rattle.up_hands.specs.Keeping.{AllKept, Eased, Taken, at_home, counts_of};
 
-use crate::flock::relieve_for;
 use crate::machine::Machine;
+use crate::relieving::relieve_for;
 use core::mem::replace;
 use std::alloc::Global;
 use std::marker::Model;
@@ -38,7 +38,7 @@ pub struct Hands {
 }
 
 impl Model for Hands {
-    ghost use Rattle.up_object.specs.Steps.{brought_of};
+    ghost use Rattle.up_object.specs.OneCall.{brought_of};
     ghost use Rattle.up_hands.specs.Handed.{Handed};
     ghost use Rattle.up_hands.specs.Keeping.{counts_of};
     ghost use Rattle.up_hands.specs.Standing.{HandsStand};
@@ -76,7 +76,7 @@ impl Hands {
         ensures legal { IfOk result (λ hands. AllLegal hands.lives) }
     {
         let machine = Machine::new(alloc, births, frames, loan)?;
-        let _ = machine.objects();
+        machine.is_legal();
         match empty_lists(alloc, actors) {
             Ok(kept) => Ok(Hands {
                 machine,
@@ -108,7 +108,7 @@ impl Hands {
             loan: _,
             levels: _,
         } = self;
-        let _ = machine.objects();
+        machine.has_both_kinds();
         machine.bring_home(hand.into_frames(alloc));
         bring_lists(&mut machine, kept);
         machine.end(alloc)
@@ -123,7 +123,7 @@ impl Hands {
         requires proper { IsProper self.old.lives who wish }
         requires hand { self.old.hand ≡ hand_for wish }
         requires some { AsksForSome wish }
-        ensures done { Done self.old self.new who wish result }
+        ensures done { DoesWish self.old self.new who wish result }
         ensures hand { IfOk result (λ heard. self.new.hand ≡ hand_after wish heard) }
         ensures legal { AllLegal self.new.lives }
         ensures births { births_in self.new.lives ≡ births_in self.old.lives }
@@ -135,7 +135,7 @@ impl Hands {
             Wish::Resize { object, pages } => self.resize(alloc, who, object, pages),
             other => self.serve(alloc, who, other),
         };
-        let _ = self.machine.objects();
+        self.machine.is_legal();
         heard
     }
 
@@ -146,7 +146,7 @@ impl Hands {
         requires no_call { object_of wish ≡ None }
         requires hand { self.old.hand ≡ empty_hand }
         requires some { AsksForSome wish }
-        ensures done { Done self.old self.new who wish result }
+        ensures done { DoesWish self.old self.new who wish result }
         ensures hand { IfOk result (λ heard. self.new.hand ≡ hand_after wish heard) }
         ensures shape { SameShape self.old self.new }
     {
@@ -174,7 +174,7 @@ impl Hands {
         requires object { object < length self.old.lives }
         requires proper { IsProper self.old.lives who (wishes.Act object call) }
         requires hand { self.old.hand ≡ hand_for (wishes.Act object call) }
-        ensures done { Done self.old self.new who (wishes.Act object call) result }
+        ensures done { DoesWish self.old self.new who (wishes.Act object call) result }
         ensures hand { IfOk result (λ heard. self.new.hand ≡ hand_after (wishes.Act object call) heard) }
         ensures shape { SameShape self.old self.new }
     {
@@ -188,7 +188,7 @@ impl Hands {
     fn resize(&mut self, alloc: Global, who: u32, object: u32, pages: u32) -> Result<Heard, Memory>
         requires object { object < length self.old.lives }
         requires hand { self.old.hand ≡ empty_hand }
-        ensures done { Done self.old self.new who (wishes.Resize object pages) result }
+        ensures done { DoesWish self.old self.new who (wishes.Resize object pages) result }
         ensures hand { IfOk result (λ heard. self.new.hand ≡ hand_after (wishes.Resize object pages) heard) }
         ensures shape { SameShape self.old self.new }
     {
@@ -202,7 +202,7 @@ impl Hands {
     fn gather(&mut self, alloc: Global, who: u32, count: u32) -> Result<Heard, Memory>
         requires hand { self.old.hand ≡ empty_hand }
         requires some { 0 < count }
-        ensures done { Done self.old self.new who (wishes.Gather count) result }
+        ensures done { DoesWish self.old self.new who (wishes.Gather count) result }
         ensures hand { IfOk result (λ heard. self.new.hand ≡ hand_after (wishes.Gather count) heard) }
         ensures shape { SameShape self.old self.new }
     {
@@ -230,7 +230,7 @@ impl Hands {
         ensures taken { IfOk result (λ heard. Taken self.old self.new kind count heard) }
         ensures same { OnErr result (self.new ≡ self.old) }
     {
-        let _ = self.machine.objects();
+        self.machine.has_both_kinds();
         let frames = self.machine.gather(alloc, kind, count)?;
         let brought = frames.brought();
         replace(&mut self.hand, frames).into_frames(alloc).end();
@@ -255,7 +255,7 @@ impl Hands {
         ensures done { IfOk result (λ heard. heard ≡ DoneHeard) }
         ensures same { OnErr result (self.new ≡ self.old) }
     {
-        let _ = self.machine.objects();
+        self.machine.has_both_kinds();
         self.machine.gather_all(&mut self.kept[who as usize])?;
         Ok(Heard::Done)
     }
@@ -265,7 +265,7 @@ impl Hands {
         requires { who < length self.old.kept }
         ensures { self.new ≡ record self.old { kept = slice_set self.old.kept who 0 } }
     {
-        let _ = self.machine.objects();
+        self.machine.has_both_kinds();
         let frames = replace(&mut self.kept[who as usize], Frames::new(alloc));
         self.machine.bring_home(frames);
     }
@@ -273,7 +273,7 @@ impl Hands {
     /// A relief by so many frames, as where none is free.
     fn relieve(&mut self, alloc: Global, who: u32, frames: u32) -> Result<Heard, Memory>
         requires hand { self.old.hand ≡ empty_hand }
-        ensures done { Done self.old self.new who (wishes.Relieve frames) result }
+        ensures done { DoesWish self.old self.new who (wishes.Relieve frames) result }
         ensures hand { IfOk result (λ heard. self.new.hand ≡ hand_after (wishes.Relieve frames) heard) }
         ensures shape { SameShape self.old self.new }
     {
@@ -284,7 +284,7 @@ impl Hands {
     /// A relief by what is missing, where memory is short.
     fn watch(&mut self, alloc: Global, who: u32) -> Result<Heard, Memory>
         requires hand { self.old.hand ≡ empty_hand }
-        ensures done { Done self.old self.new who wishes.Watch result }
+        ensures done { DoesWish self.old self.new who wishes.Watch result }
         ensures hand { IfOk result (λ heard. self.new.hand ≡ hand_after wishes.Watch heard) }
         ensures shape { SameShape self.old self.new }
     {
@@ -330,7 +330,7 @@ fn bring_lists(machine: &mut Machine, lists: Vec<Frames>)
     requires { AllKept machine.old.pool.loaned.bank lists.items }
     ensures { machine.new.lives ≡ machine.old.lives }
 {
-    let _ = machine.objects();
+    machine.has_both_kinds();
     let mut rest = lists;
     while let Some(frames) = rest.pop() {
         machine.bring_home(frames);

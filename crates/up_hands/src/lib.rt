@@ -1,10 +1,9 @@
 //! Hands: they carry out what actors wish, on objects, two banks of frames and a clock, on one thread.
+//! Used through `up_stage`, by `cases/step`.
 #![tactic(auto)]
 
-mod flock;
 mod hands;
 mod machine;
-mod pool;
-mod sole;
+mod relieving;
 
 pub use hands::Hands;

@@ -10,22 +10,22 @@ ghost use Rattle.up_model.specs.Reply as replies;
 ghost use Rattle.up_model.specs.declared.entry.Brought.TheVariants.{Frames as FramesBrought, Scanned as ScanBrought};
 ghost use Rattle.up_object.specs.Parts.{bank_of};
 ghost use Rattle.up_object.specs.Change.{AllAre, AllOwn};
-ghost use Rattle.up_object.specs.Steps.{brought_of, frames_of};
+ghost use Rattle.up_object.specs.OneCall.{brought_of, frames_of};
 ghost use Rattle.up_object.specs.Whole.{after, held, life_of};
 ghost use Rattle.up_core.specs.Requests.{kind_taken, Agrees};
-ghost use Rattle.up_hands.specs.Handed.{held_in, new_life, births_in, ends_of, is_fair, AllLegal};
+ghost use Rattle.up_hands.specs.Handed.{new_life, ends_of, is_fair, AllLegal};
 ghost use Rattle.up_hands.specs.Machined.{Machined, owned, AllOf, Acted, Stays};
-ghost use Rattle.up_hands.specs.Pools.{banks_of, stored, without, pool_without, pool_with};
+ghost use Rattle.up_banks.specs.Pools.{banks_of, stored, without, pool_without, pool_with};
 
-use crate::pool::Pool;
 use std::alloc::Global;
 use std::marker::Model;
 use up_bank::FrameKind;
+use up_banks::Pool;
 use up_clock::{Clock, ClockSeat};
 use up_core::step;
 use up_model::{Birth, Call, Entries, Reply};
 use up_num::Memory;
-use up_object::{By, FramesIn, Object, Stepped};
+use up_object::{FramesIn, Object, Stepped};
 use up_pages::Frames;
 
 /// Objects with the frames that aren't theirs, and a clock.
@@ -115,11 +115,24 @@ impl Machine {
         pool.end();
     }
 
+    /// Tells the prover that all journals are legal.
+    pub fn is_legal(&self)
+        ensures { AllLegal self.now.lives }
+    {
+        self.objects.len();
+    }
+
+    /// Tells the prover that each of the two banks has frames of its kind.
+    pub fn has_both_kinds(&self)
+        ensures { (self.now.pool.ordinary.bank.kind ≡ OrdinaryKind)
+            × (self.now.pool.loaned.bank.kind ≡ LoanedKind) }
+    {
+        self.objects.len();
+    }
+
     /// How many objects there are.
     pub fn objects(&self) -> u32
-        ensures value { result ≡ length self.now.lives }
-        ensures legal { AllLegal self.now.lives }
-        ensures kinds { (self.now.pool.ordinary.bank.kind ≡ OrdinaryKind) × (self.now.pool.loaned.bank.kind ≡ LoanedKind) }
+        ensures { result ≡ length self.now.lives }
     {
         self.objects.len() as u32
     }
@@ -151,12 +164,12 @@ impl Machine {
         ensures frames { (kind : FrameKindValue) → owned kind self.new ≡ owned kind self.old + count_kind kind (frames_of frames) }
     {
         let epoch = self.clock.now(&mut self.seat);
-        let by = By { who, epoch };
         act_on(
             &mut self.objects[object as usize],
             &mut self.pool,
             alloc,
-            by,
+            who,
+            epoch,
             call,
             frames,
         )
@@ -206,7 +219,8 @@ fn act_on(
     object: &mut Object,
     pool: &mut Pool,
     alloc: Global,
-    by: By,
+    who: u32,
+    epoch: u64,
     call: Call,
     frames: FramesIn,
 ) -> Result<Reply, Memory>
@@ -214,24 +228,24 @@ fn act_on(
     requires kinds { (pool.old.ordinary.bank.kind ≡ OrdinaryKind) × (pool.old.loaned.bank.kind ≡ LoanedKind) }
     requires own { AllAre (bank_of object.old.banks (kind_taken call)) (frames_of frames) }
     requires agrees { Agrees call frames }
-    requires proper { IsTrue (replies.proper object.old.birth object.old.journal by.who call) }
-    ensures reply { IfOk result (λ reply. reply ≡ replies.reply object.old.birth object.old.journal by.who by.epoch call) }
-    ensures ok { OnOk result (object.new ≡ after object.old by.who by.epoch call) }
+    requires proper { IsTrue (replies.proper object.old.birth object.old.journal who call) }
+    ensures reply { IfOk result (λ reply. reply ≡ replies.reply object.old.birth object.old.journal who epoch call) }
+    ensures ok { OnOk result (object.new ≡ after object.old who epoch call) }
     ensures err { OnErr result (object.new ≡ object.old) }
     ensures kept { (object.new.birth ≡ object.old.birth) × (object.new.banks ≡ object.old.banks) }
     ensures banks { banks_of pool.new ≡ banks_of pool.old }
     ensures frames { (kind : FrameKindValue) → (stored kind pool.new).home + held object.new.birth object.new.journal kind ≡ (stored kind pool.old).home + held object.old.birth object.old.journal kind + count_kind kind (frames_of frames) }
     ensures legal { Legal object.new.birth object.new.journal }
 {
-    match step(object, alloc, by.who, by.epoch, call, frames) {
+    match step(object, alloc, who, epoch, call, frames) {
         Ok(Stepped { reply, back }) => {
             pool.bring_home(back);
-            let _ = object.size();
+            object.is_legal();
             Ok(reply)
         }
         Err((memory, back)) => {
             pool.bring_home(back);
-            let _ = object.size();
+            object.is_legal();
             Err(memory)
         }
     }

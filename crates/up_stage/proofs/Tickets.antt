@@ -1,8 +1,8 @@
 -- Who holds a ticket holds it on, but for a retry of its own that spends it.
 use Rattle.std.proofs.Common.{◌≡◌, ℕ, ◌<◌, ◌==◌, ◌&&◌, ◌||◌, ◌++◌, not, Bool, true, false, cond, Option, Some, None, List, [], ◌∷◌, refl, sym, ap, ◌∙◌, subst, slice_get, arith}
 use Rattle.up_model.proofs.Bools.{and_left, nat_eq_true, nat_eq-same, differ}
-use Rattle.up_model.proofs.Blocking.{blocked_entry}
-use Rattle.up_model.proofs.Holding.{owner_below, waits_holds}
+use Rattle.up_model.proofs.NewTickets.{blocked_entry}
+use Rattle.up_model.proofs.HeldTickets.{owner_below, waits_holds}
 use Rattle.up_model.specs.Attempts.{blocks}
 use Rattle.up_model.specs.Legal.{Legal}
 use Rattle.up_model.specs.Parked.{waits_under}
@@ -15,10 +15,10 @@ use Rattle.up_model.specs.declared.entry.Entry.{Entry}
 use Rattle.up_model.specs.declared.entry.Reply.{Reply}
 use Rattle.up_model.specs.declared.entry.Reply.TheVariants.{Blocked}
 use Rattle.up_hands.specs.Handed.{lives_of, AllLegal}
-use Rattle.up_worker.specs.Lives.{Entered, OwnEvicts, is_evict}
+use Rattle.up_worker.specs.Courses.{Entered, OwnEvicts, is_evict}
 use Rattle.up_worker.specs.Thread.{of_object}
 use Rattle.up_stage.specs.Ready.{HoldsOn}
-use Rattle.up_stage.proofs.Lives.{some_same, found, life_at, legal_at, legal_before}
+use Rattle.up_stage.proofs.ObjectJournals.{some_same, found, life_at, legal_at, legal_before}
 
 blocks_is : (r : Reply) (t : ℕ) → blocks r t ≡ true → r ≡ Blocked t
 blocks_is (Blocked n) t p = ap (λ (k : ℕ). Blocked k) (nat_eq_true n t p)

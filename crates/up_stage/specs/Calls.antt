@@ -43,12 +43,6 @@ abbrev pub IsRightFor : Option ℕ → Call → Brought → Type 0
 IsRightFor None call b = (frames_before call ≡ 0) ⊎ (brings (frames_before call) b ≡ true)
 IsRightFor (Some ticket) call b = Unit {0}
 
--- a line that is played: none of a sample pager, and no sync
-abbrev pub is_played : Action → Bool
-is_played (actions.Sync object) = false
-is_played (actions.Turn object steps) = false
-is_played _ = true
-
 -- the line's end, where it is one, is as its object's birth asks
 abbrev pub suits_births : List Birth → Action → Bool
 suits_births births (actions.Act object call) = suits_birth births object call

@@ -1,7 +1,7 @@
-pub mod Staged
+pub mod Scheduled
 pub mod Calls
 pub mod Ready
-pub mod Worlds
+pub mod LeadsTo
 pub mod Lines
 pub mod Played
 pub mod Rounds

@@ -12,10 +12,11 @@ use Rattle.up_script.specs.declared.script.Line.{Line}
 use Rattle.up_script.specs.declared.script.ObjectLine.{ObjectLine}
 use Rattle.up_script.specs.declared.script.Script.{Script}
 use Rattle.up_hands.specs.Handed.{lives_of, home, loans, new_life, ends_of, empty_hand, AllLegal}
-use Rattle.up_worker.specs.Lives.{Entered}
+use Rattle.up_worker.specs.Courses.{Entered}
 use Rattle.up_steps.specs.Steps.{Setting, Moment, Steps}
-use Rattle.up_stage.specs.Calls.{is_played, suits_births}
-use Rattle.up_stage.specs.Staged.{Staged, unborn_from}
+use Rattle.up_steps.specs.Told.{is_played}
+use Rattle.up_stage.specs.Calls.{suits_births}
+use Rattle.up_stage.specs.Scheduled.{Scheduled, unborn_from}
 
 abbrev pub births_of : List ObjectLine → List Birth
 births_of objects = map (λ object. object.birth) objects
@@ -65,8 +66,8 @@ abbrev pub are_able : List Birth → ℕ → List Line → Bool
 are_able births actors lines = list_all (is_able_line births actors) lines
 
 -- all objects and actors before the first line
-abbrev pub IsNew : Script → Staged → Type 0
-IsNew script stage = stage ≡ record {
+abbrev pub IsNew : Script → Scheduled → Type 0
+IsNew script scheduler = scheduler ≡ record {
   hands = record {
     lives = map new_life (births_of script.objects);
     frames = script.frames;

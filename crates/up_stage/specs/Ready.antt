@@ -21,7 +21,7 @@ use Rattle.up_worker.specs.declared.wish.Wanted.{Wanted}
 use Rattle.up_worker.specs.declared.wish.Wanted.TheVariants as wanted
 use Rattle.up_worker.specs.declared.wish.Wish.{Wish}
 use Rattle.up_worker.specs.declared.wish.Wish.TheVariants as wishes
-use Rattle.up_stage.specs.Staged.{Staged}
+use Rattle.up_stage.specs.Scheduled.{Scheduled}
 use Rattle.up_stage.specs.Calls.{AreFitCalls, IsRightFor}
 
 -- this actor holds the ticket on that object, and no retry of it was answered for good
@@ -45,14 +45,14 @@ pub record ActorKeeps (lives : List Life) (who : ℕ) (a : Acting) : Type 0 wher
   pub objects : (place object : ℕ) → slice_get a.objects place ≡ Some object → object < length lives
   pub holds : HoldsIts lives a
 
-pub record Keeps (s : Staged) : Type 0 where
+pub record SchedulerKeeps (s : Scheduled) : Type 0 where
   pub legal : AllLegal s.hands.lives
   pub kept : length s.hands.kept ≡ length s.actors
   pub done : length s.done ≡ length s.actors
   pub each : (who : ℕ) (a : Acting) → slice_get s.actors who ≡ Some a → ActorKeeps s.hands.lives who a
 
 -- the call under way is made, with what was brought
-pub record Makes (a : Acting) (object : ℕ) (call : Call) : Type 0 where
+pub record MakesCall (a : Acting) (object : ℕ) (call : Call) : Type 0 where
   pub aim : Aim
   pub brought : Brought
   pub is : under_way a ≡ Some aim
@@ -83,7 +83,7 @@ pub record BorrowsFor (a : Acting) : Type 0 where
   pub lent : borrows aim.call ≡ true
 
 -- an actor that is parked waits under a ticket
-pub record Parks (a : Acting) : Type 0 where
+pub record IsParked (a : Acting) : Type 0 where
   pub ticket : ℕ
   pub aim : Aim
   pub holds : a.ticket ≡ Some ticket
@@ -91,33 +91,33 @@ pub record Parks (a : Acting) : Type 0 where
 
 -- what holds while an actor wishes that
 abbrev pub Pending : Acting → Wish → Type 0
-Pending a (wishes.Act object call) = Makes a object call
+Pending a (wishes.Act object call) = MakesCall a object call
 Pending a (wishes.Resize object pages) = MakesResize a object pages
 Pending a (wishes.Gather count) = GathersFor a count
 Pending a wishes.Loan = BorrowsFor a
-Pending a (wishes.Park object) = Parks a
+Pending a (wishes.Park object) = IsParked a
 Pending a (wishes.Site object step) = ⊥
 Pending a _ = a.ticket ≡ None
 
 -- the line of an actor is done, or it is parked
-abbrev pub Rests : Acting → Type 0
-Rests a = ((a.wants ≡ wanted.Nothing) × (a.ticket ≡ None)) ⊎ ((a.wants ≡ wanted.Done) × Parks a)
+abbrev pub ActorRests : Acting → Type 0
+ActorRests a = ((a.wants ≡ wanted.Nothing) × (a.ticket ≡ None)) ⊎ ((a.wants ≡ wanted.Done) × IsParked a)
 
 -- all actors rest, and nothing is in hand
-pub record AtRest (s : Staged) : Type 0 where
-  pub keeps : Keeps s
+pub record AtRest (s : Scheduled) : Type 0 where
+  pub keeps : SchedulerKeeps s
   pub hand : s.hands.hand ≡ empty_hand
-  pub rest : (who : ℕ) (a : Acting) → slice_get s.actors who ≡ Some a → Rests a
+  pub rest : (who : ℕ) (a : Acting) → slice_get s.actors who ≡ Some a → ActorRests a
 
 -- one actor wishes that, and all others rest
-pub record Ready (s : Staged) (who : ℕ) (wish : Wish) : Type 0 where
-  pub keeps : Keeps s
+pub record Ready (s : Scheduled) (who : ℕ) (wish : Wish) : Type 0 where
+  pub keeps : SchedulerKeeps s
   pub acting : Acting
   pub is : slice_get s.actors who ≡ Some acting
   pub hand : s.hands.hand ≡ hand_for wish
   pub pending : Pending acting wish
   pub wants : acting.wants ≡ wants_after wish
-  pub others : (other : ℕ) (a : Acting) → (who == other) ≡ false → slice_get s.actors other ≡ Some a → Rests a
+  pub others : (other : ℕ) (a : Acting) → (who == other) ≡ false → slice_get s.actors other ≡ Some a → ActorRests a
 
 -- how much an actor may still wish in what it does: the more calls are left, and the fewer frames were brought to the next one, the more
 abbrev pub weight : Option Brought → ℕ
@@ -137,12 +137,12 @@ rank_of _ = 1
 abbrev pub rank : Acting → Wish → ℕ
 rank a wish = (length (calls_of a.kind a.objects a.doing) - a.settled) * 17179869184 + rank_of wish
 
--- the rank of an actor of the stage; of none it is 0
+-- the rank of an actor of the scheduler; of none it is 0
 abbrev pub rank_in : Option Acting → Wish → ℕ
 rank_in None wish = 0
 rank_in (Some a) wish = rank a wish
 
-abbrev pub rank_at : Staged → ℕ → Wish → ℕ
+abbrev pub rank_at : Scheduled → ℕ → Wish → ℕ
 rank_at s who wish = rank_in (slice_get s.actors who) wish
 
 -- the actor waits to be told to go on
@@ -154,7 +154,7 @@ abbrev pub waits_for_go : Option Acting → Bool
 waits_for_go None = false
 waits_for_go (Some a) = is_done_wanted a.wants
 
-abbrev pub is_waiting : Staged → ℕ → Bool
+abbrev pub is_waiting : Scheduled → ℕ → Bool
 is_waiting s who = waits_for_go (slice_get s.actors who)
 
 -- how many frames a reply asks for
@@ -162,6 +162,6 @@ abbrev pub asked_in : Reply → ℕ
 asked_in (Needs count) = count
 asked_in _ = 0
 
-abbrev pub asked : Heard → ℕ
-asked (heard.Replied reply) = asked_in reply
-asked _ = 0
+abbrev pub frames_asked : Heard → ℕ
+frames_asked (heard.Replied reply) = asked_in reply
+frames_asked _ = 0

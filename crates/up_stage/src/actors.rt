@@ -1,6 +1,6 @@
 ghost use Rattle.std.specs.Prelude.{◌≡◌, ◌<◌, ◌^◌, ◌≤◌, length, IfOk};
 ghost use Rattle.up_stage.specs.Played.{births_of};
-ghost use Rattle.up_stage.specs.Staged.{unborn_from};
+ghost use Rattle.up_stage.specs.Scheduled.{unborn_from};
 
 use std::alloc::Global;
 use up_model::Birth;

@@ -1,10 +1,11 @@
 //! A script, played on one thread: each actor with the queue of its lines, and the script that is made of a seed.
+//! Used by itself in `pagerd`, by `cases/`.
 #![tactic(auto)]
 
 mod actors;
 mod making;
 mod playing;
-mod stage;
+mod scheduler;
 mod summing;
 
 pub use making::generate;

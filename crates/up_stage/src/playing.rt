@@ -1,7 +1,7 @@
 ghost use Rattle.std.specs.Prelude.{IfOk};
 ghost use Rattle.up_stage.specs.Played.{AreJournalsOf, IsPlayable};
 
-use crate::stage::Stage;
+use crate::scheduler::Scheduler;
 use std::alloc::Global;
 use up_model::Entries;
 use up_num::Memory;
@@ -15,9 +15,9 @@ pub fn play(alloc: Global, script: &Script) -> Result<Vec<Entries>, Memory>
     ensures { IfOk result (λ journals. AreJournalsOf script.now journals.items) }
 {
     doing_wishes_makes_the_steps();
-    let mut stage = Stage::new(alloc, script)?;
-    let done = stage.all_lines(alloc, script.lines.as_slice());
-    let ended = stage.end(alloc);
+    let mut scheduler = Scheduler::new(alloc, script)?;
+    let done = scheduler.all_lines(alloc, script.lines.as_slice());
+    let ended = scheduler.end(alloc);
     done?;
     ended
 }

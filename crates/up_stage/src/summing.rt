@@ -1,4 +1,4 @@
-ghost use Rattle.std.specs.Prelude.{◌≡◌, ◌<◌, ◌&&◌};
+ghost use Rattle.std.specs.Prelude.{◌≡◌, ◌&&◌};
 ghost use Rattle.up_stage.specs.Summing.{gives_bytes, is_write, is_done, pages_taken, pages_evicted, first_byte, summary_of};
 
 use up_model::{Call, Entry, Reply};

@@ -1,6 +1,6 @@
 use Rattle.std.proofs.Common.{◌≡◌, length}
 use Rattle.up_hands.specs.Keeping.{AllKept}
-use Rattle.up_hands.specs.Pools.{banks_of}
+use Rattle.up_banks.specs.Pools.{banks_of}
 use Rattle.up_hands.proofs.hands.bring_lists.Given as goal
 
 abbrev pub invariant-loop-frames : goal.invariant-loop-frames

@@ -1,5 +1,5 @@
 use Rattle.std.proofs.Common.{arith}
-use Rattle.up_hands.proofs.Kept.{kept_pushed, counts_push}
+use Rattle.up_hands.proofs.KeptFrames.{kept_pushed, counts_push}
 use Rattle.up_hands.proofs.hands.empty_lists.Goals as goal
 
 pub loop-place-preserved : goal.loop-place-preserved

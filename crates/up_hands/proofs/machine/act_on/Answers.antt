@@ -3,9 +3,9 @@ use Rattle.up_bank.specs.Standing.{Held as Frame}
 use Rattle.up_core.specs.Requests.{kind_taken}
 use Rattle.up_object.specs.Parts.{BankPair, bank_of}
 use Rattle.up_object.specs.Change.{AllAre, AllOwn}
-use Rattle.up_object.specs.Steps.{frames_of}
-use Rattle.up_hands.specs.Pools.{Pooled, banks_of, stored}
-use Rattle.up_hands.proofs.Owned.{own_of, stored_with}
+use Rattle.up_object.specs.OneCall.{frames_of}
+use Rattle.up_banks.specs.Pools.{Pooled, banks_of, stored}
+use Rattle.up_banks.proofs.Owned.{own_of, stored_with}
 use Rattle.up_hands.proofs.machine.act_on.Goals as goal
 
 pub bring_home-requires-in-Err : goal.bring_home-requires-in-Err

@@ -1,8 +1,8 @@
 use Rattle.std.proofs.Common.{ap, ◌∙◌, arith}
 use Rattle.up_object.specs.Whole.{Whole, life_of}
-use Rattle.up_hands.specs.Pools.{banks_of}
-use Rattle.up_hands.proofs.Born.{born_one}
-use Rattle.up_hands.proofs.Entered.{banks_pushed}
+use Rattle.up_banks.specs.Pools.{banks_of}
+use Rattle.up_hands.proofs.ObjectBirths.{born_one}
+use Rattle.up_hands.proofs.EntriesAdded.{banks_pushed}
 use Rattle.up_hands.proofs.machine.born.Goals as goal
 
 pub loop-one-preserved : goal.loop-one-preserved

@@ -1,8 +1,8 @@
 use Rattle.std.proofs.Common.{ap, sym, subst, ◌∙◌}
 use Rattle.up_object.specs.Parts.{BankPair}
 use Rattle.up_object.specs.Change.{AllOwn}
-use Rattle.up_hands.specs.Pools.{banks_of}
-use Rattle.up_hands.proofs.Entered.{banks_popped}
+use Rattle.up_banks.specs.Pools.{banks_of}
+use Rattle.up_hands.proofs.EntriesAdded.{banks_popped}
 use Rattle.up_hands.proofs.machine.let_go.Goals as goal
 
 pub bring_home-requires : goal.bring_home-requires

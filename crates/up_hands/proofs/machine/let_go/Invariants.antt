@@ -1,6 +1,6 @@
 use Rattle.std.proofs.Common.{◌≡◌, length}
 use Rattle.up_hands.specs.Machined.{AllOf}
-use Rattle.up_hands.specs.Pools.{banks_of}
+use Rattle.up_banks.specs.Pools.{banks_of}
 use Rattle.up_hands.proofs.machine.let_go.Given as goal
 
 abbrev pub invariant-loop-object : goal.invariant-loop-object

@@ -1,7 +1,7 @@
 use Rattle.std.proofs.Common.{arith, ◌≡◌, ℕ, ◌+◌, ◌<◌, ◌≤◌, ◌++◌, List, [], ◌∷◌, suc, length, take, get_or, sym, ap, subst, ◌∙◌, take-suc, length-take-le}
 use Rattle.up_script.specs.declared.script.ActorLine.{ActorLine}
 use Rattle.up_worker.specs.Acting.{Acting, unborn}
-use Rattle.up_stage.specs.Staged.{unborn_from}
+use Rattle.up_stage.specs.Scheduled.{unborn_from}
 use Rattle.up_stage.proofs.actors.actors_of.Goals as goal
 
 unborn_push : (n : ℕ) (lines : List ActorLine) (line : ActorLine) → unborn_from n (lines ++ line ∷ []) ≡ unborn_from n lines ++ unborn (n + length lines) line.kind line.objects ∷ []

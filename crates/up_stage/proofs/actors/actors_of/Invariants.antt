@@ -1,6 +1,6 @@
 use Rattle.std.proofs.Common.{◌≡◌, ◌≤◌, length, take, vec_len}
 use Rattle.std.specs.Vec.{vec_capacity}
-use Rattle.up_stage.specs.Staged.{unborn_from}
+use Rattle.up_stage.specs.Scheduled.{unborn_from}
 use Rattle.up_stage.proofs.actors.actors_of.Given as goal
 
 abbrev pub invariant-loop-line : goal.invariant-loop-line

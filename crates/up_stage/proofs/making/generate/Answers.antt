@@ -2,7 +2,7 @@ use Rattle.std.proofs.Common.{◌++◌, List, [], ◌∷◌, ap, ◌∙◌}
 use Rattle.up_script.specs.declared.script.ActorLine.{ActorLine}
 use Rattle.up_script.specs.declared.script.ObjectLine.{ObjectLine}
 use Rattle.up_stage.specs.Rounds.{generated_user}
-use Rattle.up_stage.proofs.Rounding.{made_playable}
+use Rattle.up_stage.proofs.GeneratedRounds.{made_playable}
 use Rattle.up_stage.proofs.making.generate.Goals as goal
 
 pub returns-clause-playable : goal.returns-clause-playable

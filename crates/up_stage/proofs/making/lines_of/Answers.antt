@@ -1,5 +1,5 @@
 use Rattle.std.proofs.Common.{arith, ◌∙◌, ◌+◌, sym}
-use Rattle.up_stage.proofs.Rounding.{rounds_more, number_more, no_rounds, first_number, few_lines}
+use Rattle.up_stage.proofs.GeneratedRounds.{rounds_more, number_more, no_rounds, first_number, few_lines}
 use Rattle.up_stage.proofs.making.lines_of.Goals as goal
 
 pub loop-place-init : goal.loop-place-init

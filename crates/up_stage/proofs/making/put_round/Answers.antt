@@ -1,5 +1,5 @@
 use Rattle.up_stage.specs.Rounds.{page_in, supplies, accesses}
-use Rattle.up_stage.proofs.Rounding.{put_two, short_round, long_round, on_ok}
+use Rattle.up_stage.proofs.GeneratedRounds.{put_two, short_round, long_round, on_ok}
 use Rattle.up_stage.proofs.making.put_round.Goals as goal
 
 pub returns-then-round-eq0 : goal.returns-then-round-eq0

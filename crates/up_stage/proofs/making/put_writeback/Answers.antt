@@ -2,7 +2,7 @@ use Rattle.std.proofs.Common.{◌∙◌, ap, false, None}
 use Rattle.up_model.specs.declared.entry.Call.TheVariants as calls
 use Rattle.up_script.specs.declared.script.Action.TheVariants as actions
 use Rattle.up_stage.specs.Rounds.{by_pager, all_pages}
-use Rattle.up_stage.proofs.Rounding.{put_two, on_ok}
+use Rattle.up_stage.proofs.GeneratedRounds.{put_two, on_ok}
 use Rattle.up_stage.proofs.making.put_writeback.Goals as goal
 
 pub returns : goal.returns

@@ -2,13 +2,13 @@ use Rattle.std.proofs.Common.{◌≡◌, ◌<◌, ◌-◌, ℕ, List, subst, ari
 use Rattle.up_bank.specs.declared.kind.FrameKind.TheVariants.{Ordinary}
 use Rattle.up_evictor.specs.declared.levels.Level.TheVariants.{Empty}
 use Rattle.up_model.specs.declared.entry.Birth.{Birth}
-use Rattle.up_worker.specs.Lives.{Entered}
+use Rattle.up_worker.specs.Courses.{Entered}
 use Rattle.up_worker.specs.declared.wish.Wish.TheVariants as wishes
 use Rattle.up_hands.specs.Handed.{Handed, lives_of}
 use Rattle.up_hands.specs.Carried.{CarriedOut}
 use Rattle.up_hands.specs.Keeping.{Eased, Taken, at_home}
-use Rattle.up_hands.proofs.Acting.{of_one}
-use Rattle.up_hands.proofs.Carrying.{carried_short}
+use Rattle.up_hands.proofs.OneObjectCalled.{of_one}
+use Rattle.up_hands.proofs.WishesDone.{carried_short}
 use Rattle.up_hands.proofs.hands.Hands.gather.Goals as goal
 
 pub returns-clause-done : goal.returns-clause-done

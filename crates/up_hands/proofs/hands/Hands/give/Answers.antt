@@ -4,14 +4,14 @@ use Rattle.up_bank.specs.declared.kind.FrameKind.TheVariants.{Ordinary, Loaned}
 use Rattle.up_pages.specs.Frames.{Stock, count_kind}
 use Rattle.up_object.specs.Parts.{BankPair, bank_of}
 use Rattle.up_object.specs.Change.{AllAre, AllOwn}
-use Rattle.up_object.specs.Steps.{brought_of, frames_of}
+use Rattle.up_object.specs.OneCall.{brought_of, frames_of}
 use Rattle.up_hands.specs.Handed.{InHand, Handed, held_in}
 use Rattle.up_hands.specs.Keeping.{AllKept, counts_of, kind_lent}
 use Rattle.up_hands.specs.Machined.{Machined}
-use Rattle.up_hands.specs.Pools.{banks_of}
-use Rattle.up_hands.proofs.Carrying.{handed}
-use Rattle.up_hands.proofs.Kept.{list_there, kept_at, kept_set, counts_set, sum_set}
-use Rattle.up_hands.proofs.Owned.{own_of, all_of, none_ordinary}
+use Rattle.up_banks.specs.Pools.{banks_of}
+use Rattle.up_hands.proofs.WishesDone.{handed}
+use Rattle.up_hands.proofs.KeptFrames.{list_there, kept_at, kept_set, counts_set, sum_set}
+use Rattle.up_banks.proofs.Owned.{own_of, all_of, none_ordinary}
 use Rattle.up_hands.proofs.hands.Hands.give.Goals as goal
 
 pub bring_home-requires : goal.bring_home-requires
@@ -21,7 +21,7 @@ bring_home-requires c =
     let list = c.index_mut.result.now in
     let is = list_there lists c.args.self.now.kept c.args.who list (ap (λ (v : Handed). v.kept) c.self.view_is) c.requires c.index_mut.ensures.value in
     subst (λ (stock : Stock). AllOwn (banks_of pool) stock.items) (sym c.replace-frames.ensures.value)
-    (own_of (banks_of pool) Loaned list.items c.objects.ensures.kinds.0 c.objects.ensures.kinds.1 (kept_at pool.loaned.bank lists c.args.who list c.self.invariant.kept is))
+    (own_of (banks_of pool) Loaned list.items c.has_both_kinds.ensures.0 c.has_both_kinds.ensures.1 (kept_at pool.loaned.bank lists c.args.who list c.self.invariant.kept is))
 
 pub invariant_of-self : goal.invariant_of-self
 invariant_of-self c =
@@ -36,8 +36,8 @@ invariant_of-self c =
     let given = c.replace-frames.result.items in
     let same : given ≡ list.items = ap (λ (stock : Stock). stock.items) c.replace-frames.ensures.value in
     let none : new.items ≡ [] = ap (λ (stock : Stock). stock.items) c.replace-frames.ensures.after ∙ c.new.ensures.empty in
-    let ordinary : count_kind Ordinary given ≡ 0 = ap (count_kind Ordinary) same ∙ none_ordinary bank list.items c.objects.ensures.kinds.1 are in
-    let loaned : count_kind Loaned given ≡ length list.items = ap (count_kind Loaned) same ∙ all_of Loaned bank list.items c.objects.ensures.kinds.1 are in
+    let ordinary : count_kind Ordinary given ≡ 0 = ap (count_kind Ordinary) same ∙ none_ordinary bank list.items c.has_both_kinds.ensures.1 are in
+    let loaned : count_kind Loaned given ≡ length list.items = ap (count_kind Loaned) same ∙ all_of Loaned bank list.items c.has_both_kinds.ensures.1 are in
     let few : length new.items ≡ 0 = ap (λ (items : List Frame). length items) none in
     let home = ap (λ (v : Machined). v.pool.ordinary.home) c.bring_home.ensures in
     let loans = ap (λ (v : Machined). v.pool.loaned.home) c.bring_home.ensures in

@@ -4,15 +4,15 @@ use Rattle.up_bank.specs.declared.kind.FrameKind.TheVariants.{Ordinary, Loaned}
 use Rattle.up_pages.specs.Frames.{count_kind}
 use Rattle.up_object.specs.Parts.{BankPair, bank_of}
 use Rattle.up_object.specs.Change.{AllAre}
-use Rattle.up_object.specs.Steps.{brought_of, frames_of}
+use Rattle.up_object.specs.OneCall.{brought_of, frames_of}
 use Rattle.up_hands.specs.Handed.{InHand, Handed, held_in}
 use Rattle.up_hands.specs.Keeping.{AllKept, at_home, counts_of, kind_lent}
 use Rattle.up_hands.specs.Machined.{Machined, owned}
-use Rattle.up_hands.specs.Pools.{banks_of}
-use Rattle.up_hands.proofs.Carrying.{handed}
+use Rattle.up_banks.specs.Pools.{banks_of}
+use Rattle.up_hands.proofs.WishesDone.{handed}
 use Rattle.up_hands.proofs.Homes.{at_home_is}
 use Rattle.up_hands.proofs.InHand.{no_frames_in_hand}
-use Rattle.up_hands.proofs.Kept.{list_there, kept_at, kept_set, counts_set, count_at, sum_set}
+use Rattle.up_hands.proofs.KeptFrames.{list_there, kept_at, kept_set, counts_set, count_at, sum_set}
 use Rattle.up_hands.proofs.hands.Hands.keep.Goals as goal
 
 pub invariant_of-self-2 : goal.invariant_of-self-2

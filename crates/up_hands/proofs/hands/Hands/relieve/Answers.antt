@@ -1,4 +1,4 @@
-use Rattle.up_hands.proofs.Carrying.{carried_relief}
+use Rattle.up_hands.proofs.WishesDone.{carried_relief}
 use Rattle.up_hands.proofs.hands.Hands.relieve.Goals as goal
 
 pub returns-clause-done : goal.returns-clause-done

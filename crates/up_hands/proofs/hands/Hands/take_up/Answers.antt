@@ -8,13 +8,13 @@ use Rattle.up_pages.specs.Frames.{count_kind}
 use Rattle.up_object.specs.declared.step.FramesIn.{FramesIn}
 use Rattle.up_object.specs.Parts.{BankPair, bank_of, is_loan}
 use Rattle.up_object.specs.Change.{AllAre}
-use Rattle.up_object.specs.Steps.{brought_of, frames_of}
+use Rattle.up_object.specs.OneCall.{brought_of, frames_of}
 use Rattle.up_worker.specs.declared.wish.Heard.TheVariants as heard
 use Rattle.up_hands.specs.Handed.{InHand, Handed, held_in}
 use Rattle.up_hands.specs.Keeping.{AllKept, Taken, counts_of, kind_lent}
 use Rattle.up_hands.specs.Machined.{Machined, owned}
-use Rattle.up_hands.specs.Pools.{banks_of}
-use Rattle.up_hands.proofs.Carrying.{handed}
+use Rattle.up_banks.specs.Pools.{banks_of}
+use Rattle.up_hands.proofs.WishesDone.{handed}
 use Rattle.up_hands.proofs.Homes.{claimed, same_banks, kind_of_loan, at_home_is}
 use Rattle.up_hands.proofs.InHand.{no_frames_in_hand}
 use Rattle.up_hands.proofs.hands.Hands.take_up.Goals as goal
@@ -31,8 +31,8 @@ invariant_of-self-2 c =
     let no_loaned : count_kind Loaned (frames_of inside.hand) ≡ 0 = ap (count_kind Loaned) none in
     let in_hand : count_kind Ordinary (frames_of new) ≡ count_kind Ordinary items = ap (λ (f : FramesIn). count_kind Ordinary (frames_of f)) c.replace.ensures.after in
     let lent : count_kind Loaned (frames_of new) ≡ count_kind Loaned items = ap (λ (f : FramesIn). count_kind Loaned (frames_of f)) c.replace.ensures.after in
-    let ordinary = claimed kind Ordinary m.pool items c.objects.ensures.kinds.0 c.objects.ensures.kinds.1 c.in_ok-frames.ensures.own c.in_ok-frames.ensures.within in
-    let loaned = claimed kind Loaned m.pool items c.objects.ensures.kinds.0 c.objects.ensures.kinds.1 c.in_ok-frames.ensures.own c.in_ok-frames.ensures.within in
+    let ordinary = claimed kind Ordinary m.pool items c.has_both_kinds.ensures.0 c.has_both_kinds.ensures.1 c.in_ok-frames.ensures.own c.in_ok-frames.ensures.within in
+    let loaned = claimed kind Loaned m.pool items c.has_both_kinds.ensures.0 c.has_both_kinds.ensures.1 c.in_ok-frames.ensures.own c.in_ok-frames.ensures.within in
     let home = ap (λ (v : Machined). v.pool.ordinary.home) c.in_ok-frames.ensures.ok in
     let loans = ap (λ (v : Machined). v.pool.loaned.home) c.in_ok-frames.ensures.ok in
     let pages = ap (λ (v : Machined). held_in Ordinary v.lives) c.in_ok-frames.ensures.ok in

@@ -3,7 +3,7 @@ use Rattle.up_evictor.specs.Levels.{level_of}
 use Rattle.up_evictor.specs.declared.levels.Levels.{Levels}
 use Rattle.up_hands.specs.Handed.{Handed}
 use Rattle.up_hands.specs.Keeping.{Eased}
-use Rattle.up_hands.proofs.Carrying.{carried_watch}
+use Rattle.up_hands.proofs.WishesDone.{carried_watch}
 use Rattle.up_hands.proofs.hands.Hands.watch.Goals as goal
 
 pub returns-clause-done : goal.returns-clause-done

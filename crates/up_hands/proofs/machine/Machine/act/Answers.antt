@@ -5,12 +5,12 @@ use Rattle.up_core.specs.Requests.{kind_taken}
 use Rattle.up_model.specs.Reply as replies
 use Rattle.up_object.specs.Parts.{BankPair, bank_of}
 use Rattle.up_object.specs.Change.{AllAre}
-use Rattle.up_object.specs.Steps.{frames_of}
+use Rattle.up_object.specs.OneCall.{frames_of}
 use Rattle.up_object.specs.Whole.{life_of, after}
 use Rattle.up_hands.specs.Machined.{Machined, owned, AllOf, Acted, Stays}
-use Rattle.up_hands.specs.Pools.{banks_of, stored}
-use Rattle.up_hands.proofs.Acting.{found, life_at, acted, acted_frames, of_both}
-use Rattle.up_hands.proofs.Entered.{banks_at, banks_set, legal_set, set_births}
+use Rattle.up_banks.specs.Pools.{banks_of, stored}
+use Rattle.up_hands.proofs.OneObjectCalled.{found, life_at, acted, acted_frames, of_both}
+use Rattle.up_hands.proofs.EntriesAdded.{banks_at, banks_set, legal_set, set_births}
 use Rattle.up_hands.proofs.machine.Machine.act.Goals as goal
 
 pub act_on-requires-clause-banks : goal.act_on-requires-clause-banks

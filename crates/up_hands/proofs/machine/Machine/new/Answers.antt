@@ -3,9 +3,9 @@ use Rattle.up_clock.specs.Known.{Known}
 use Rattle.up_object.specs.Parts.{BankPair}
 use Rattle.up_hands.specs.Handed.{AllLegal}
 use Rattle.up_hands.specs.Machined.{AllOf}
-use Rattle.up_hands.specs.Pools.{Pooled, banks_of}
-use Rattle.up_hands.proofs.Born.{same_many}
-use Rattle.up_hands.proofs.Entered.{legal_new}
+use Rattle.up_banks.specs.Pools.{Pooled, banks_of}
+use Rattle.up_hands.proofs.ObjectBirths.{same_many}
+use Rattle.up_hands.proofs.EntriesAdded.{legal_new}
 use Rattle.up_hands.proofs.machine.Machine.new.Goals as goal
 
 pub invariant_of-result : goal.invariant_of-result

@@ -1,5 +1,0 @@
-use Rattle.up_stage.proofs.Going.{gone_more}
-use Rattle.up_stage.proofs.stage.Stage.all_lines.Goals as goal
-
-pub loop-at-preserved : goal.loop-at-preserved
-loop-at-preserved c = gone_more c.args.lines.now c.loop-at.at c.args.self.now c.loop-at.self c.line.new.self c.loop-at.invariant c.in_ok-line.ensures

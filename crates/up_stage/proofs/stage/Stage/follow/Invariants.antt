@@ -1,9 +1,0 @@
-use Rattle.up_stage.specs.Ready.{rank_at}
-use Rattle.up_stage.proofs.Following.{Following}
-use Rattle.up_stage.proofs.stage.Stage.follow.Given as goal
-
-abbrev pub invariant-loop-alloc : goal.invariant-loop-alloc
-invariant-loop-alloc l = Following l.fn.self l.self l.who l.fn.first l.wish
-
-abbrev pub decreases-loop-alloc : goal.decreases-loop-alloc
-decreases-loop-alloc l = rank_at l.self l.who l.wish
