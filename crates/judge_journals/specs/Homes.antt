@@ -2,7 +2,7 @@
 use Rattle.std.specs.Prelude.{List, [], ◌∷◌}
 use Rattle.up_object.specs.Parts.{BankPair}
 use Rattle.up_object.specs.Change.{AllOwn}
-use Rattle.up_object.specs.Steps.{frames_of}
+use Rattle.up_object.specs.OneCall.{frames_of}
 use Rattle.up_core.specs.declared.requests.Request.{Request}
 
 -- all frames of the requests are of the bank of their kind

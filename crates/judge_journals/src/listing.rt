@@ -1,11 +1,11 @@
 //! A journal's calls done anew on an object, as lists of requests.
-ghost use Rattle.std.specs.Prelude.{◌≡◌, ◌<◌, ◌≤◌, ◌&&◌, List, [], IsTrue, IfOk, OnOk, length};
+ghost use Rattle.std.specs.Prelude.{◌≡◌, ◌<◌, ◌≤◌, ◌&&◌, List, [], IsTrue, IfOk, length};
 ghost use Rattle.up_bank.specs.Standing.{most_frames};
 ghost use Rattle.up_model.specs.Reply as replies;
 ghost use Rattle.up_model.specs.declared.entry.Entry.{Entry as EntryValue};
 ghost use Rattle.up_core.specs.Requests.{AllKeep, AllBackOwn, after_all};
 ghost use Rattle.up_object.specs.Change.{AllOwn};
-ghost use Rattle.up_object.specs.Steps.{frames_of};
+ghost use Rattle.up_object.specs.OneCall.{frames_of};
 ghost use Rattle.judge_journals.specs.Homes.{AllHome};
 
 use std::alloc::Global;
@@ -106,7 +106,7 @@ fn is_retry(call: &Call) -> bool {
 }
 
 /// Makes the calls of some entries as one list of requests, and counts the replies that are the same.
-#[tactic(auto, using(crate::proofs::Kept::home_left, up_core::proofs::Listed::banks_stay))]
+#[tactic(auto, using(crate::proofs::Requests::home_left, up_core::proofs::Listed::banks_stay))]
 fn run_some(
     alloc: Global,
     object: &mut Object,
@@ -154,7 +154,7 @@ fn list_of(
 }
 
 /// Appends an entry's call to a list; false where it may not be made or frames are lacking.
-#[tactic(auto, using(crate::proofs::Kept::home_pushed))]
+#[tactic(auto, using(crate::proofs::Requests::home_pushed))]
 fn add(
     alloc: Global,
     object: &Object,
@@ -224,7 +224,7 @@ fn counts(brought: Brought) -> bool
 }
 
 /// Counts the replies that are those of the entries. The frames that came with them go home.
-#[tactic(auto, using(crate::proofs::Kept::back_own, crate::proofs::Kept::back_rest))]
+#[tactic(auto, using(crate::proofs::Requests::back_own, crate::proofs::Requests::back_rest))]
 fn count_same(pool: &mut Pool, replies: Replies, entries: &[Entry]) -> usize
     requires { AllBackOwn pool.old replies }
     ensures { pool.new ≡ pool.old }
@@ -245,7 +245,7 @@ fn count_same(pool: &mut Pool, replies: Replies, entries: &[Entry]) -> usize
 }
 
 /// Brings the frames of requests home.
-#[tactic(auto, using(crate::proofs::Kept::home_own, crate::proofs::Kept::home_rest))]
+#[tactic(auto, using(crate::proofs::Requests::home_own, crate::proofs::Requests::home_rest))]
 fn bring_all_home(alloc: Global, pool: &mut Pool, requests: Requests)
     requires { AllHome pool.old requests }
     ensures { pool.new ≡ pool.old }

@@ -1,8 +1,8 @@
 pub mod Illegal
 mod Computed
-pub mod Handing
-pub mod Holding
+pub mod CallsHanded
+pub mod TicketHolders
 pub mod OneByOne
-pub mod Owned
+pub mod OwnFrames
 pub mod Replayed
-pub mod Retold
+pub mod ReplayFinds

@@ -1,9 +1,9 @@
 -- A call that is made again with no more frames than it needs has the reply that it had, and leaves a journal that is the same but for frames.
-use Rattle.std.proofs.Common.{◌≡◌, ◌≢◌, IsTrue, ℕ, ◌==◌, ◌&&◌, Bool, true, false, cond, Option, Some, None, List, ◌∷◌, refl, ap, sym, ◌∙◌, arith}
+use Rattle.std.proofs.Common.{◌≡◌, ◌≢◌, ℕ, ◌==◌, ◌&&◌, Bool, true, false, cond, Some, None, List, ◌∷◌, refl, ap, sym, ◌∙◌, arith}
 use Rattle.std.specs.Prelude.{nat_le}
 use Rattle.std.proofs.lemmas.Bool.{and_parts}
 use Rattle.std.proofs.lemmas.Bool.Decides.{nat_tests}
-use Rattle.up_model.specs.Reply.{counts_frames, frames_in, is_scan, proper, reply, brings}
+use Rattle.up_model.specs.Reply.{counts_frames, frames_in, is_scan, proper, reply}
 use Rattle.up_model.specs.declared.entry.Birth.{Birth}
 use Rattle.up_model.specs.declared.entry.Brought.{Brought}
 use Rattle.up_model.specs.declared.entry.Brought.TheVariants.{Nothing, Frames, Scanned}
@@ -11,13 +11,13 @@ use Rattle.up_model.specs.declared.entry.Call.{Call}
 use Rattle.up_model.specs.declared.entry.Call.TheVariants as calls
 use Rattle.up_model.specs.declared.entry.Entry.{Entry}
 use Rattle.up_model.specs.declared.entry.Reply.{Reply}
-use Rattle.up_object.specs.Steps.{brought_count}
+use Rattle.up_object.specs.OneCall.{brought_count}
 use Rattle.up_core.specs.Groups.{bringing}
-use Rattle.up_core.specs.Enough.{bare, all_bare, SameButFrames, needed, is_enough}
+use Rattle.up_core.specs.Enough.{SameButFrames, needed, is_enough}
 use Rattle.up_core.proofs.Enough.{only_for_enough, proper_alike}
 use Rattle.up_check.specs.Faults.{IsFault}
 use Rattle.up_check.specs.Replaying.{brought_by, at_most, brought_again, again, Replays}
-use Rattle.up_check.specs.declared.judging.Judged.TheVariants.{Right, Fault}
+use Rattle.up_check.specs.declared.judging.Judged.TheVariants.{Right}
 use Rattle.up_check.specs.declared.replay.MadeAgain.TheVariants.{Judged as JudgedAgain}
 
 own_brought : (c : Call) → bringing (brought_by c) c ≡ c

@@ -1,11 +1,11 @@
 -- What a call is handed of the banks of a replayed journal.
-use Rattle.std.specs.Prelude.{◌≡◌, List, []}
+use Rattle.std.specs.Prelude.{◌≡◌, []}
 use Rattle.up_bank.specs.declared.kind.FrameKind.{FrameKind}
 use Rattle.up_model.specs.declared.entry.Brought.{Brought}
 use Rattle.up_model.specs.declared.entry.Brought.TheVariants.{Nothing}
 use Rattle.up_object.specs.Parts.{BankPair, bank_of}
 use Rattle.up_object.specs.Change.{AllAre, AllOwn}
-use Rattle.up_object.specs.Steps.{brought_of, frames_of}
+use Rattle.up_object.specs.OneCall.{brought_of, frames_of}
 use Rattle.up_object.specs.declared.step.FramesIn.{FramesIn}
 
 -- frames of this kind of the banks, which a call's entry says so of

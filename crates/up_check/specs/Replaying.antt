@@ -1,12 +1,12 @@
 -- What a call brings when it is made again, and what replay finds of an entry.
-use Rattle.std.specs.Prelude.{ℕ, Bool, true, false, cond, Option, Some, None, List, ◌∷◌, nat_le}
+use Rattle.std.specs.Prelude.{ℕ, Bool, true, false, cond, List, ◌∷◌, nat_le}
 use Rattle.up_model.specs.declared.entry.Birth.{Birth}
 use Rattle.up_model.specs.declared.entry.Brought.{Brought}
 use Rattle.up_model.specs.declared.entry.Brought.TheVariants.{Nothing, Frames, Scanned}
 use Rattle.up_model.specs.declared.entry.Call.{Call}
 use Rattle.up_model.specs.declared.entry.Call.TheVariants.{Read, Write, Retry, Supply, Dirty, Pin, Evict, Borrow, Vacate, Resize, Zero, Detach, Packet, Leave, Tell}
 use Rattle.up_model.specs.declared.entry.Entry.{Entry}
-use Rattle.up_object.specs.Steps.{brought_count}
+use Rattle.up_object.specs.OneCall.{brought_count}
 use Rattle.up_core.specs.Groups.{bringing}
 use Rattle.up_core.specs.Enough.{SameButFrames, needed}
 use Rattle.up_check.specs.Judging.{IsJudged, Finds}
@@ -14,7 +14,6 @@ use Rattle.up_check.specs.declared.replay.MadeAgain.{MadeAgain}
 use Rattle.up_check.specs.declared.replay.MadeAgain.TheVariants.{Judged as JudgedAgain, TooLarge as MadeTooLarge}
 use Rattle.up_check.specs.declared.replay.Replayed.{Replayed}
 use Rattle.up_check.specs.declared.replay.Replayed.TheVariants.{Found, TooLarge}
-use Rattle.up_check.specs.declared.judging.Judged.{Judged}
 use Rattle.up_check.specs.declared.judging.Judged.TheVariants.{Right, Fault}
 
 -- what a call says that it brought: nothing where it takes no frames

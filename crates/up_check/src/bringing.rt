@@ -1,7 +1,7 @@
 //! What a call brings when it is made again, and the call with that.
 ghost use Rattle.std.specs.Prelude.{◌≡◌, ℕ, true, false, IsTrue, IfOk};
 ghost use Rattle.up_model.specs.Reply.{proper};
-ghost use Rattle.up_object.specs.Steps.{brought_count};
+ghost use Rattle.up_object.specs.OneCall.{brought_count};
 ghost use Rattle.up_core.specs.Groups.{bringing};
 ghost use Rattle.up_core.specs.Requests.{takes_frames};
 ghost use Rattle.up_check.specs.Replaying as replaying;
@@ -9,7 +9,7 @@ ghost use Rattle.up_check.specs.Replaying as replaying;
 use std::alloc::Global;
 use up_core::needs;
 use up_model::{Brought, Call};
-use up_num::{Bytes, Memory};
+use up_num::Memory;
 use up_object::Object;
 
 /// The call, where it brings this instead.

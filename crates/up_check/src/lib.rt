@@ -1,5 +1,6 @@
 //! Judges journals: whether each entry has the reply that the definitions give after the entries before it, and where one
 //! hasn't, which is the first.
+//! Used by itself in `judge_journals` and `pagerd`.
 #![tactic(auto)]
 
 mod bringing;

@@ -1,11 +1,9 @@
 //! The banks of a journal whose calls are made again.
-ghost use Rattle.std.specs.Prelude.{◌≡◌, ◌+◌, ◌<◌, ◌≤◌, [], true, length, sum, IfOk, IfSome};
+ghost use Rattle.std.specs.Prelude.{◌≡◌, ◌+◌, ◌<◌, ◌≤◌, [], true, length, IfOk, IfSome};
 ghost use Rattle.up_bank.specs.Standing.{most_frames};
-ghost use Rattle.up_bank.specs.declared.kind.FrameKind.TheVariants.{Ordinary as OrdinaryKind, Loaned as LoanedKind};
 ghost use Rattle.up_model.specs.Reply.{counts_frames};
 ghost use Rattle.up_object.specs.Parts.{bank_of};
 ghost use Rattle.up_object.specs.Change.{AllAre, AllOwn};
-ghost use Rattle.up_object.specs.Steps.{brought_of, frames_of};
 ghost use Rattle.up_check.specs.Handed.{HandedIn};
 
 use crate::sizes::Sizes;
@@ -68,7 +66,7 @@ impl Pool {
     }
 
     /// What a call is handed that brings this; nothing where the bank lacks frames.
-    #[tactic(auto, using(crate::proofs::Handing::handed_given, crate::proofs::Handing::handed_none, crate::proofs::Handing::handed_scan))]
+    #[tactic(auto, using(crate::proofs::CallsHanded::handed_given, crate::proofs::CallsHanded::handed_none, crate::proofs::CallsHanded::handed_scan))]
     pub fn hand(
         &mut self,
         alloc: Global,
@@ -113,7 +111,7 @@ impl Pool {
     }
 
     /// Claims one frame more, where one is at home.
-    #[tactic(auto, using(crate::proofs::Owned::are_pushed, crate::proofs::Owned::own_pushed))]
+    #[tactic(auto, using(crate::proofs::OwnFrames::are_pushed, crate::proofs::OwnFrames::own_pushed))]
     fn claim_into(&mut self, kind: FrameKind, frames: &mut Frames)
         requires room { length frames.old.items < frames.old.room }
         ensures same { self.new ≡ self.old }

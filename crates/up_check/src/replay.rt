@@ -6,7 +6,7 @@ ghost use Rattle.up_model.specs.Tickets as tickets;
 ghost use Rattle.up_model.specs.declared.entry.Entry.{Entry as EntryValue};
 ghost use Rattle.up_object.specs.Parts.{bank_of};
 ghost use Rattle.up_object.specs.Change.{AllAre, AllOwn};
-ghost use Rattle.up_object.specs.Steps.{frames_of};
+ghost use Rattle.up_object.specs.OneCall.{frames_of};
 ghost use Rattle.up_object.specs.Whole.{after};
 ghost use Rattle.up_core.specs.Enough.{SameButFrames};
 ghost use Rattle.up_core.specs.Requests.{kind_taken, Agrees};
@@ -87,7 +87,7 @@ fn replay_all(
 }
 
 /// Makes the call of an entry, and compares the reply.
-#[tactic(auto, using(crate::proofs::Handing::counts_in, crate::proofs::Handing::hands_in, crate::proofs::Retold::improper_told, crate::proofs::Retold::right_told, crate::proofs::Retold::wrong_told))]
+#[tactic(auto, using(crate::proofs::CallsHanded::counts_in, crate::proofs::CallsHanded::hands_in, crate::proofs::ReplayFinds::improper_told, crate::proofs::ReplayFinds::right_told, crate::proofs::ReplayFinds::wrong_told))]
 fn replay_one(
     alloc: Global,
     object: &mut Object,
@@ -115,7 +115,7 @@ fn replay_one(
 }
 
 /// Whether an actor may make the call now: whether it is proper.
-#[tactic(auto, using(crate::proofs::Holding::retry_told, crate::proofs::Holding::other_told))]
+#[tactic(auto, using(crate::proofs::TicketHolders::retry_told, crate::proofs::TicketHolders::other_told))]
 pub fn may_call(object: &Object, who: u32, call: &Call) -> bool
     ensures { result ≡ replies.proper object.now.birth object.now.journal who call.now }
 {
@@ -153,11 +153,11 @@ fn counts(brought: Brought) -> bool
 }
 
 /// Whether the ticket was given to this actor, and isn't spent.
-#[tactic(auto, using(crate::proofs::Holding::holds_some, crate::proofs::Holding::holds_none))]
+#[tactic(auto, using(crate::proofs::TicketHolders::holds_some, crate::proofs::TicketHolders::holds_none))]
 fn holds(object: &Object, who: u32, ticket: u64) -> bool
     ensures { result ≡ (replies.is_by (tickets.owner object.now.journal ticket) who && not (tickets.spent object.now.journal ticket)) }
 {
-    let _ = object.size();
+    object.is_legal();
     match object.asks().holder(ticket) {
         Some(holder) => holder == who,
         None => false,

@@ -2,7 +2,7 @@ use Rattle.std.proofs.Common.{IsTrue, rules}
 use Rattle.up_model.specs.Reply.{proper}
 use Rattle.up_core.specs.Requests.{after_all}
 use Rattle.up_check.specs.Handed.{HandedIn}
-use Rattle.judge_journals.proofs.Kept.{keeps_pushed}
+use Rattle.judge_journals.proofs.Requests.{keeps_pushed}
 use Rattle.judge_journals.proofs.listing.add.Goals as goal
 
 pub returns-in-Ok-clause-keeps : goal.returns-in-Ok-clause-keeps

@@ -1,4 +1,4 @@
-use Rattle.std.proofs.Common.{◌≡◌, ℕ, ◌-◌, length}
+use Rattle.std.proofs.Common.{◌≡◌, ◌-◌, length}
 use Rattle.judge_journals.proofs.listing.run_entries.Given as goal
 
 abbrev pub invariant-loop-first : goal.invariant-loop-first

@@ -1,12 +1,9 @@
-use Rattle.std.proofs.Common.{◌≡◌, ◌≢◌, IsTrue, true, rules}
+use Rattle.std.proofs.Common.{◌≡◌, ◌≢◌, true, rules}
 use Rattle.up_model.specs.Reply as replies
 use Rattle.up_object.specs.Whole.{after}
-use Rattle.up_core.specs.Groups.{bringing}
-use Rattle.up_core.specs.Requests.{kind_taken}
 use Rattle.up_check.specs.Handed.{HandedIn}
-use Rattle.up_check.specs.Replaying.{brought_again}
-use Rattle.up_check.proofs.Handing.{hands_in}
-use Rattle.up_check.proofs.Retold.{right_told, wrong_told}
+use Rattle.up_check.proofs.CallsHanded.{hands_in}
+use Rattle.up_check.proofs.ReplayFinds.{right_told, wrong_told}
 use Rattle.up_check.proofs.replay.replay_one.Goals as goal
 
 pub make-requires-clause-agrees : goal.make-requires-clause-agrees

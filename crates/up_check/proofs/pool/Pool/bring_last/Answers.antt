@@ -1,4 +1,4 @@
-use Rattle.up_check.proofs.Owned.{own_popped}
+use Rattle.up_check.proofs.OwnFrames.{own_popped}
 use Rattle.up_check.proofs.pool.Pool.bring_last.Goals as goal
 
 pub give-requires : goal.give-requires

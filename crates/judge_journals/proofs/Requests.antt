@@ -1,5 +1,5 @@
 -- Requests that are appended and taken off, frames that come back, and what a call is handed.
-use Rattle.std.proofs.Common.{◌≡◌, ℕ, List, [], ◌∷◌, ◌++◌, IsTrue, refl, sym, ap, ◌∙◌, subst}
+use Rattle.std.proofs.Common.{◌≡◌, List, [], ◌∷◌, ◌++◌, IsTrue, refl, sym, ap, ◌∙◌, subst}
 use Rattle.up_bank.specs.declared.kind.FrameKind.{FrameKind}
 use Rattle.up_model.specs.Reply.{proper}
 use Rattle.up_model.specs.declared.entry.Birth.{Birth}
@@ -12,7 +12,7 @@ use Rattle.up_object.specs.declared.step.Stepped.{Stepped}
 use Rattle.up_object.specs.Parts.{BankPair, bank_of}
 use Rattle.up_object.specs.Change.{AllAre, AllOwn}
 use Rattle.up_object.specs.Whole.{Whole}
-use Rattle.up_object.specs.Steps.{brought_of, frames_of}
+use Rattle.up_object.specs.OneCall.{brought_of, frames_of}
 use Rattle.up_core.specs.declared.requests.Request.{Request}
 use Rattle.up_core.specs.Groups.{bringing}
 use Rattle.up_core.specs.Requests.{Keeps, AllKeep, AllBackOwn, Agrees, kind_taken, after_one, after_all}

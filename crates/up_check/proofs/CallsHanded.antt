@@ -14,13 +14,13 @@ use Rattle.up_model.specs.declared.entry.Call.TheVariants as calls
 use Rattle.up_model.specs.declared.entry.Entry.{Entry}
 use Rattle.up_object.specs.Parts.{BankPair, bank_of}
 use Rattle.up_object.specs.Change.{AllAre, AllOwn}
-use Rattle.up_object.specs.Steps.{brought_of, frames_of}
+use Rattle.up_object.specs.OneCall.{brought_of, frames_of}
 use Rattle.up_object.specs.declared.step.FramesIn.{FramesIn}
 use Rattle.up_object.specs.declared.step.FramesIn.TheVariants.{NoneYet, Given, Scanned as ScanIn}
 use Rattle.up_core.specs.Groups.{bringing}
 use Rattle.up_core.specs.Requests.{kind_taken, Agrees}
 use Rattle.up_check.specs.Handed.{HandedIn}
-use Rattle.up_check.specs.Replaying.{brought_again, again}
+use Rattle.up_check.specs.Replaying.{brought_again}
 use Rattle.up_check.proofs.Replayed.{counts_again, proper_again}
 
 agrees_by : (birth : Birth) (h : List Entry) (c : Call) (brought : Brought) (frames : FramesIn) → brought ≡ brought_again birth h c → brought ≡ brought_of frames → (brought ≡ Nothing → frames_of frames ≡ []) →

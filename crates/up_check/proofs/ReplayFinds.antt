@@ -1,5 +1,5 @@
 -- What replay finds of an entry, from what the object's step says.
-use Rattle.std.proofs.Common.{◌≡◌, ◌≢◌, ℕ, true, false, Some, None, List, ◌∷◌, sym, subst, ap, ◌∙◌}
+use Rattle.std.proofs.Common.{◌≡◌, ◌≢◌, true, false, Some, None, List, ◌∷◌, sym, subst, ap, ◌∙◌}
 use Rattle.up_model.specs.Reply.{proper, reply}
 use Rattle.up_model.specs.declared.entry.Brought.{Brought}
 use Rattle.up_model.specs.declared.entry.Call.{Call}
