@@ -1,6 +1,8 @@
-pub mod Failing
-pub mod Naming
+pub mod FirstFailing
+pub mod NamedJournals
+pub mod GenWords
+pub mod WholeTexts
+pub mod Dues
 pub mod Endings
-pub mod Judging
-pub mod Building
-pub mod Asking
+pub mod VerdictsTold
+pub mod DoneScripts

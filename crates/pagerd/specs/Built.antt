@@ -6,7 +6,7 @@ use Rattle.up_script.specs.declared.script.ActorLine.{ActorLine}
 use Rattle.up_script.specs.declared.script.Line.{Line}
 use Rattle.up_script.specs.declared.script.ObjectLine.{ObjectLine}
 use Rattle.up_script.specs.declared.script.Script.{Script}
-use Rattle.up_stage.specs.Calls.{is_played}
+use Rattle.up_steps.specs.Told.{is_played}
 
 -- a line that is none of a sample pager, and no sync
 abbrev pub is_built_line : Line → Bool

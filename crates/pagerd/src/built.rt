@@ -1,5 +1,5 @@
 ghost use Rattle.std.specs.Prelude.{◌≡◌};
-ghost use Rattle.up_stage.specs.Calls.{is_played};
+ghost use Rattle.up_steps.specs.Told.{is_played};
 ghost use Rattle.pagerd.specs.Built as built;
 
 use up_model::Birth;
@@ -39,7 +39,7 @@ fn is_built_actor(actor: &ActorLine) -> bool
     !matches!(actor.kind, Kind::Worker)
 }
 
-#[tactic(auto, using(crate::proofs::Failing::failing_here, crate::proofs::Failing::failing_more, crate::proofs::Failing::failing_nowhere))]
+#[tactic(auto, using(crate::proofs::FirstFailing::failing_here, crate::proofs::FirstFailing::failing_more, crate::proofs::FirstFailing::failing_nowhere))]
 fn find_object(objects: &[ObjectLine]) -> Option<u32>
     ensures { result ≡ built.first_failing built.is_built_object built.object_number objects.now }
 {
@@ -51,7 +51,7 @@ fn find_object(objects: &[ObjectLine]) -> Option<u32>
     None
 }
 
-#[tactic(auto, using(crate::proofs::Failing::failing_here, crate::proofs::Failing::failing_more, crate::proofs::Failing::failing_nowhere))]
+#[tactic(auto, using(crate::proofs::FirstFailing::failing_here, crate::proofs::FirstFailing::failing_more, crate::proofs::FirstFailing::failing_nowhere))]
 fn find_actor(actors: &[ActorLine]) -> Option<u32>
     ensures { result ≡ built.first_failing built.is_built_actor built.actor_number actors.now }
 {
@@ -63,7 +63,7 @@ fn find_actor(actors: &[ActorLine]) -> Option<u32>
     None
 }
 
-#[tactic(auto, using(crate::proofs::Failing::failing_here, crate::proofs::Failing::failing_more, crate::proofs::Failing::failing_nowhere))]
+#[tactic(auto, using(crate::proofs::FirstFailing::failing_here, crate::proofs::FirstFailing::failing_more, crate::proofs::FirstFailing::failing_nowhere))]
 fn find_line(lines: &[Line]) -> Option<u32>
     ensures { result ≡ built.first_failing built.is_built_line built.line_number lines.now }
 {

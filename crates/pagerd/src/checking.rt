@@ -1,30 +1,25 @@
-ghost use Rattle.std.specs.Prelude.{◌≡◌, IfOk, IfErr, codes};
-ghost use Rattle.up_outside.specs.Cause.{Rose};
-ghost use Rattle.pagerd.specs.Top.{IsJudged, IsJudgement, SpellsIllegal};
+ghost use Rattle.std.specs.Prelude.{ℕ, List, IfOk};
+ghost use Rattle.pagerd.specs.Commands.{Asks};
+ghost use Rattle.pagerd.specs.Outputs.{Answers, OfJournals};
+ghost use Rattle.pagerd.specs.Outsides.{input_of};
 
+use crate::command::Command;
+use crate::output::{Answer, Output, Stop};
 use crate::text::{fault_at, illegal_at, why_word};
-use crate::top::Stop;
 use std::alloc::Global;
 use up_check::{Verdict, check};
 use up_num::Memory;
 use up_outside::{ReadStop, Source, read_to};
-use up_text::{Journals, read_journals};
+use up_text::read_journals;
 use up_words::ReadFault;
 
 /// The greatest length of a text of journals.
 const TEXT: usize = 67_108_864;
 
-/// What is to be told of a text of journals: that they are legal, the first entry at fault, or the text's first fault.
-pub enum Judgement {
-    Legal(Vec<u8>),
-    Illegal(Vec<u8>),
-    Fault(Vec<u8>),
-}
-
 /// Reads journals, judges them, and gives what is to be told.
-pub fn judge<S: Source>(alloc: Global, source: &mut S) -> Result<Judgement, Stop>
-    ensures told { IfOk result (λ judgement. IsJudged (S.left source.old) (S.left source.new) judgement) }
-    ensures source { IfErr result (λ stop. stop ≡ Stop.Source → Rose (S.faults source.old) (S.faults source.new)) }
+pub fn judge<S: Source>(alloc: Global, source: &mut S) -> Result<Answer, Stop>
+    ensures { (words : List (List ℕ)) → Asks words Command.Check
+        → Answers (input_of S.Source words source.old source.new) result }
 {
     let bytes = match read_to(alloc, source, TEXT) {
         Ok(bytes) => bytes,
@@ -32,27 +27,29 @@ pub fn judge<S: Source>(alloc: Global, source: &mut S) -> Result<Judgement, Stop
         Err(ReadStop::Memory) => return Err(Stop::Memory),
     };
     match judge_text(alloc, bytes.as_slice()) {
-        Ok(judgement) => Ok(judgement),
+        Ok(answer) => Ok(answer),
         Err(_) => Err(Stop::Memory),
     }
 }
 
 /// What is to be told of a text of journals.
-fn judge_text(alloc: Global, bytes: &[u8]) -> Result<Judgement, Memory>
-    ensures { IfOk result (IsJudgement bytes.now) }
+fn judge_text(alloc: Global, bytes: &[u8]) -> Result<Answer, Memory>
+    ensures { IfOk result (λ answer. OfJournals answer.output bytes.now answer.text.items) }
 {
     let journals = match read_journals(alloc, bytes) {
         Ok(journals) => journals,
         Err(ReadFault::Bad { line, why }) => {
             let text = fault_at(alloc, line, why_word(why))?;
-            return Ok(Judgement::Fault(text));
+            let output = Output::JournalsFault;
+            return Ok(Answer { output, text });
         }
         Err(ReadFault::Memory) => return Err(Memory {}),
     };
     match check(alloc, &journals)? {
         Verdict::Legal => {
             let text = Vec::from_slice(alloc, b"legal\n")?;
-            Ok(Judgement::Legal(text))
+            let output = Output::Legal;
+            Ok(Answer { output, text })
         }
         Verdict::First {
             journal,
@@ -61,7 +58,8 @@ fn judge_text(alloc: Global, bytes: &[u8]) -> Result<Judgement, Memory>
         } => {
             let name = journals.at(journal as usize).name.as_slice();
             let text = illegal_at(alloc, name, entry, &expected)?;
-            Ok(Judgement::Illegal(text))
+            let output = Output::Illegal;
+            Ok(Answer { output, text })
         }
     }
 }

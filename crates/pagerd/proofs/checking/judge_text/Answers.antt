@@ -1,5 +1,5 @@
 use Rattle.std.proofs.Common.{rules}
-use Rattle.pagerd.proofs.Judging.{names_its_journal}
+use Rattle.pagerd.proofs.VerdictsTold.{names_its_journal}
 use Rattle.pagerd.proofs.checking.judge_text.Goals as goal
 
 pub returns : goal.returns

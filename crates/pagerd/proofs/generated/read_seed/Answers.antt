@@ -1,7 +1,7 @@
 use Rattle.std.proofs.Common.{rules, ◌≡◌, ℕ, ◌<◌, Some, List, [], ◌∷◌, length, map, ap, sym, ◌∙◌, arith}
 use Rattle.std.specs.Prelude.{codes, string_bytes}
 use Rattle.up_words.specs.Numbers.{number}
-use Rattle.pagerd.proofs.Asking.{three_items, same_word}
+use Rattle.pagerd.proofs.GenWords.{three_items, same_word}
 use Rattle.pagerd.proofs.generated.read_seed.Goals as goal
 
 pub returns-in_ok-rounds-in-len3-clause-some : goal.returns-in_ok-rounds-in-len3-clause-some

@@ -1,4 +1,4 @@
-use Rattle.pagerd.proofs.Building.{playable}
+use Rattle.pagerd.proofs.DoneScripts.{playable}
 use Rattle.pagerd.proofs.journals.journals_of.Goals as goal
 
 pub play-requires : goal.play-requires

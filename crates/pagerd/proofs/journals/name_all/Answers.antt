@@ -3,7 +3,7 @@ use Rattle.std.proofs.lemmas.Option.{slice_get_read}
 use Rattle.up_text.specs.Versions.{Versioned}
 use Rattle.up_text.specs.declared.journals.Named.{Named}
 use Rattle.pagerd.specs.Journals.{name_one, named_from}
-use Rattle.pagerd.proofs.Naming.{named_more, named_no_more, get_past}
+use Rattle.pagerd.proofs.NamedJournals.{named_more, named_no_more, get_past}
 use Rattle.pagerd.proofs.journals.name_all.Goals as goal
 
 abbrev in_version : ℕ → List Named → Versioned

@@ -15,7 +15,7 @@ use Rattle.up_script.specs.declared.script.Script.{Script}
 use Rattle.up_stage.specs.Calls.{is_numbered_birth, suits_births}
 use Rattle.up_stage.specs.Played.{births_of, IsPlayable, is_bound_to, is_played_line}
 use Rattle.pagerd.specs.Built.{first_failing, or_number, unbuilt_line, is_built_object, is_built_actor, is_built_line, object_number, actor_number, line_number}
-use Rattle.pagerd.proofs.Failing.{none_fails}
+use Rattle.pagerd.proofs.FirstFailing.{none_fails}
 
 neither : (first second : Option ℕ) → or_number first second ≡ None → (first ≡ None) × (second ≡ None)
 neither None second is = (refl, is)

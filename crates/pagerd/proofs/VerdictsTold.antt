@@ -7,7 +7,7 @@ use Rattle.up_text.specs.Versions.{Versioned}
 use Rattle.up_text.specs.declared.journals.Named.{Named}
 use Rattle.up_check.specs.Faults.{IsFirst}
 use Rattle.pagerd.specs.Text.{illegal_text}
-use Rattle.pagerd.specs.Top.{SpellsIllegal}
+use Rattle.pagerd.specs.Outputs.{SpellsIllegal}
 
 -- the journal that stands at the number is the one with the first entry at fault
 pub names_its_journal : (bytes text : List ℕ) (journals : Versioned) (number place : ℕ) (expected : Option Reply) (found : Named) →
