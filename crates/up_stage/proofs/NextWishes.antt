@@ -17,7 +17,8 @@ use Rattle.up_script.specs.Actions.{suits_mode}
 use Rattle.up_script.specs.declared.script.Action.{Action}
 use Rattle.up_script.specs.declared.script.Action.TheVariants as actions
 use Rattle.up_worker.specs.Acting.{Acting, under_way}
-use Rattle.up_worker.specs.Calls.{bringing, borrows, frames_before}
+use Rattle.up_worker.specs.Calls.{borrows, frames_before}
+use Rattle.up_model.specs.Bringing.{bringing}
 use Rattle.up_worker.specs.Wishes.{attempt, act_on, makes, last_of, last_wish, begins_call}
 use Rattle.up_worker.specs.declared.course.Aim.{Aim}
 use Rattle.up_worker.specs.declared.course.Doing.{Doing}

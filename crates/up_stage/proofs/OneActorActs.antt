@@ -19,7 +19,8 @@ use Rattle.up_hands.specs.Carried.{CarriedOut}
 use Rattle.up_steps.specs.Asked.{parks as parks_reply, may_park}
 use Rattle.up_steps.specs.OneThread.{rests}
 use Rattle.up_worker.specs.Acting.{Acting, under_way, next_wish, next_acting}
-use Rattle.up_worker.specs.Calls.{bringing, borrows}
+use Rattle.up_worker.specs.Calls.{borrows}
+use Rattle.up_model.specs.Bringing.{bringing}
 use Rattle.up_worker.specs.Courses.{Entered, Carries, MakesOne, OwnEvicts, is_waiting, is_retry}
 use Rattle.up_worker.specs.Thread.{of_object, exact, DoneExactly}
 use Rattle.up_worker.specs.Wishes.{attempt}

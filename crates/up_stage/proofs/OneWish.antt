@@ -17,7 +17,8 @@ use Rattle.up_claims.specs.declared.step.SiteReply.TheVariants as sites
 use Rattle.up_script.specs.declared.script.Action.{Action}
 use Rattle.up_script.specs.declared.script.Action.TheVariants as actions
 use Rattle.up_worker.specs.Acting.{Acting, under_way, next_wish, next_acting}
-use Rattle.up_worker.specs.Calls.{bringing, borrows, frames_before, calls_of, is_access}
+use Rattle.up_worker.specs.Calls.{borrows, frames_before, calls_of, is_access}
+use Rattle.up_model.specs.Bringing.{bringing}
 use Rattle.up_worker.specs.Courses.{is_retry}
 use Rattle.up_worker.specs.Wishes.{attempt, act_on, makes, last_of, last_wish, begins_call, settles, is_refused, ticket_after}
 use Rattle.up_worker.specs.declared.course.Aim.{Aim}

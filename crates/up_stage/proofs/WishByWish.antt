@@ -13,7 +13,7 @@ use Rattle.up_script.specs.Actions.{suits_mode}
 use Rattle.up_steps.specs.Steps.{Setting}
 use Rattle.up_steps.specs.OneThread.{ActorEvent, entries, said_by, rests}
 use Rattle.up_worker.specs.Acting.{Acting, next_wish, next_acting}
-use Rattle.up_worker.specs.Calls.{bringing}
+use Rattle.up_model.specs.Bringing.{bringing}
 use Rattle.up_worker.specs.Courses.{Entered, Hears, Out, Carries}
 use Rattle.up_worker.specs.Wishes.{attempt, answers, wants_after}
 use Rattle.up_worker.specs.declared.wish.Heard.{Heard}

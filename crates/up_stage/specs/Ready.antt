@@ -12,7 +12,8 @@ use Rattle.up_core.specs.Requests.{brought_in, takes_frames}
 use Rattle.up_hands.specs.Handed.{births_in, AllLegal, empty_hand}
 use Rattle.up_hands.specs.Carried.{hand_for}
 use Rattle.up_worker.specs.Acting.{Acting, under_way}
-use Rattle.up_worker.specs.Calls.{bringing, borrows, calls_of}
+use Rattle.up_worker.specs.Calls.{borrows, calls_of}
+use Rattle.up_model.specs.Bringing.{bringing}
 use Rattle.up_worker.specs.Wishes.{attempt, wants_after}
 use Rattle.up_worker.specs.declared.course.Aim.{Aim}
 use Rattle.up_worker.specs.declared.wish.Heard.{Heard}

@@ -14,7 +14,8 @@ use Rattle.up_script.specs.declared.script.Action.TheVariants as actions
 use Rattle.up_script.specs.declared.script.Kind.{Kind}
 use Rattle.up_script.specs.declared.script.Kind.TheVariants as kinds
 use Rattle.up_worker.specs.Acting.{Acting, under_way, hears, first_wish, started, next_wish, next_acting}
-use Rattle.up_worker.specs.Calls.{bringing, bare, calls_of, calls_in, vacate_of, is_access, is_access_line, borrows, frames_before}
+use Rattle.up_worker.specs.Calls.{bare, calls_of, calls_in, vacate_of, is_access, is_access_line, borrows, frames_before}
+use Rattle.up_model.specs.Bringing.{bringing}
 use Rattle.up_worker.specs.Frames.{JudgedWish, is_quiet}
 use Rattle.up_worker.specs.Courses.{Entered, Event, Begins, Hears, is_told, Carries, DoneWithout}
 use Rattle.up_worker.specs.Wishes.{settles, is_refused, attempt, act_on, makes, last_of, last_wish, begins_call, unsettled}

@@ -12,7 +12,8 @@ use Rattle.up_claims.specs.declared.step.SiteReply.TheVariants as sites
 use Rattle.up_script.specs.declared.script.Action.{Action}
 use Rattle.up_script.specs.declared.script.Action.TheVariants as actions
 use Rattle.up_worker.specs.Acting.{Acting, under_way, first_wish, started, next_wish, next_acting}
-use Rattle.up_worker.specs.Calls.{bringing, calls_of, borrows, frames_before, is_access}
+use Rattle.up_worker.specs.Calls.{calls_of, borrows, frames_before, is_access}
+use Rattle.up_model.specs.Bringing.{bringing}
 use Rattle.up_worker.specs.Frames.{Judge, JudgedWish, is_quiet, front, behind, asked_by_last, needed}
 use Rattle.up_worker.specs.Courses.{Entered, is_evict, is_told, is_retry, is_waiting, OwnEvicts, MakesOne, ResizesOne, DoneWithout, Carries}
 use Rattle.up_worker.specs.Wishes.{settles, is_refused, ticket_after, attempt, act_on, makes, last_of, last_wish, begins_call, unsettled}

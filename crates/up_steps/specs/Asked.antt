@@ -7,7 +7,8 @@ use Rattle.up_model.specs.declared.entry.Call.{Call}
 use Rattle.up_model.specs.declared.entry.Call.TheVariants as calls
 use Rattle.up_model.specs.declared.entry.Reply.{Reply}
 use Rattle.up_model.specs.declared.entry.Reply.TheVariants as replies
-use Rattle.up_worker.specs.Calls.{bringing, frames_before, borrows}
+use Rattle.up_worker.specs.Calls.{frames_before, borrows}
+use Rattle.up_model.specs.Bringing.{bringing}
 use Rattle.up_worker.specs.Frames.{Judge, front, behind, asked_by_last}
 use Rattle.up_worker.specs.Courses.{Entered, is_evict}
 use Rattle.up_worker.specs.Wishes.{settles, is_refused, ticket_after, attempt}
