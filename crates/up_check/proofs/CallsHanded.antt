@@ -17,7 +17,7 @@ use Rattle.up_object.specs.Change.{AllAre, AllOwn}
 use Rattle.up_object.specs.OneCall.{brought_of, frames_of}
 use Rattle.up_object.specs.declared.step.FramesIn.{FramesIn}
 use Rattle.up_object.specs.declared.step.FramesIn.TheVariants.{NoneYet, Given, Scanned as ScanIn}
-use Rattle.up_core.specs.Groups.{bringing}
+use Rattle.up_model.specs.Bringing.{bringing}
 use Rattle.up_core.specs.Requests.{kind_taken, Agrees}
 use Rattle.up_check.specs.Handed.{HandedIn}
 use Rattle.up_check.specs.Replaying.{brought_again}

@@ -7,7 +7,7 @@ use Rattle.up_model.specs.declared.entry.Call.{Call}
 use Rattle.up_model.specs.declared.entry.Call.TheVariants.{Read, Write, Retry, Supply, Dirty, Pin, Evict, Borrow, Vacate, Resize, Zero, Detach, Packet, Leave, Tell}
 use Rattle.up_model.specs.declared.entry.Entry.{Entry}
 use Rattle.up_object.specs.OneCall.{brought_count}
-use Rattle.up_core.specs.Groups.{bringing}
+use Rattle.up_model.specs.Bringing.{bringing}
 use Rattle.up_core.specs.Enough.{SameButFrames, needed}
 use Rattle.up_check.specs.Judging.{IsJudged, Finds}
 use Rattle.up_check.specs.declared.replay.MadeAgain.{MadeAgain}

@@ -2,8 +2,7 @@
 ghost use Rattle.std.specs.Prelude.{◌≡◌, ℕ, true, false, IsTrue, IfOk};
 ghost use Rattle.up_model.specs.Reply.{proper};
 ghost use Rattle.up_object.specs.OneCall.{brought_count};
-ghost use Rattle.up_core.specs.Groups.{bringing};
-ghost use Rattle.up_core.specs.Requests.{takes_frames};
+ghost use Rattle.up_model.specs.Bringing.{bringing, takes_frames};
 ghost use Rattle.up_check.specs.Replaying as replaying;
 
 use std::alloc::Global;

@@ -6,7 +6,7 @@ use Rattle.up_model.specs.Reply.{proper}
 use Rattle.up_model.specs.declared.entry.Birth.{Birth}
 use Rattle.up_model.specs.declared.entry.Brought.{Brought}
 use Rattle.up_model.specs.declared.entry.Brought.TheVariants.{Nothing}
-use Rattle.up_core.specs.Requests.{brought_in}
+use Rattle.up_model.specs.Bringing.{brought_in}
 use Rattle.up_worker.specs.Calls.{borrows}
 use Rattle.up_worker.specs.Courses.{Entered, Carries}
 use Rattle.up_worker.specs.Thread.{DoneExactly}

@@ -26,7 +26,7 @@ use Rattle.up_model.specs.declared.entry.Call.TheVariants as calls
 use Rattle.up_model.specs.declared.entry.Reply.{Reply}
 use Rattle.up_model.specs.declared.entry.Reply.TheVariants as answer
 use Rattle.up_model.specs.declared.entry.Reply.TheVariants.{Blocked, Needs, Done, Refused}
-use Rattle.up_core.specs.Requests.{brought_in}
+use Rattle.up_model.specs.Bringing.{brought_in}
 use Rattle.up_worker.specs.Calls.{borrows, frames_before}
 use Rattle.up_steps.specs.Asked.{parks, may_park}
 
