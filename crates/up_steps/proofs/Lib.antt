@@ -14,3 +14,4 @@ mod PlainBlocks
 mod OneRelief
 mod LineSteps
 mod SmallScript
+mod SameSteps

@@ -4,3 +4,4 @@ pub mod Steps
 pub mod OneThread
 pub mod Laws
 pub mod Row
+pub mod Deciding

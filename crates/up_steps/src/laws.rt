@@ -1,6 +1,7 @@
 //! What follows where one thread does what actors wish, line by line.
 
 ghost use Rattle.up_steps.specs.Laws.{StepsFollow, StepsDecide, LinesDecide, KeepsRules};
+ghost use Rattle.up_steps.specs.Deciding.{TurnsDecide, SyncsDecide, LegalTurnsDecide, LegalSyncsDecide};
 ghost use Rattle.up_steps.specs.Row.{IsOneThreads, HasItsSteps, RefusesMore, RefusesOther, RefusesNothing, TellsNoOthers};
 
 /// Where each event follows on what its actor said, is done exactly, and the lines are gone through in order, all entries are the steps of these lines.
@@ -13,6 +14,16 @@ pub fn doing_wishes_makes_the_steps()
 pub fn the_steps_decide_the_entries()
     ensures steps { StepsDecide }
     ensures legal { LinesDecide }
+{}
+
+/// So many steps of a worker from its task, and the steps of a sync up to where it rests, are one list of entries each, and
+/// lead to one task or one rest: once it is given how each call on a disk went, which bytes a supply brings, and each reply,
+/// which legal journals give.
+pub fn turns_and_syncs_are_decided()
+    ensures turns { TurnsDecide }
+    ensures syncs { SyncsDecide }
+    ensures legal_turns { LegalTurnsDecide }
+    ensures legal_syncs { LegalSyncsDecide }
 {}
 
 /// While a call of an actor is pending, its next entry that is no evict is for that call, and while it holds a ticket it is the retry of it.

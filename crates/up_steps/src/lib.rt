@@ -6,5 +6,5 @@ mod laws;
 
 pub use laws::{
     a_small_script_is_done_so, doing_wishes_makes_the_steps, each_actor_keeps_the_rules,
-    other_entries_are_no_steps, the_steps_decide_the_entries,
+    other_entries_are_no_steps, the_steps_decide_the_entries, turns_and_syncs_are_decided,
 };
