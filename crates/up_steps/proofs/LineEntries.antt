@@ -1,6 +1,7 @@
 -- What an actor's entries keep while it does a line: one answer after the other, for every judge of gatherings.
 use Rattle.std.proofs.Common.{◌≡◌, ℕ, ◌+◌, ◌==◌, ◌&&◌, ◌||◌, ◌++◌, Bool, true, false, cond, is_some, Option, Some, None, List, [], ◌∷◌, refl, sym, ap, ◌∙◌, subst, arith, inl, inr, slice_get}
 use Rattle.std.proofs.lemmas.Bool.Decides.{nat_tests}
+use Rattle.up_model.specs.Answered.{may_park}
 use Rattle.up_model.specs.declared.entry.Brought.{Brought}
 use Rattle.up_model.specs.declared.entry.Brought.TheVariants.{Nothing}
 use Rattle.up_model.specs.declared.entry.Call.{Call}
@@ -29,7 +30,7 @@ use Rattle.up_worker.proofs.CourseRules.{after_unsettled}
 use Rattle.up_worker.proofs.StandingWishes.{bringing_again, good, is_for, access_keeps, resize_attempted}
 use Rattle.up_worker.proofs.CourseTold.{no_ticket, or_none, both_left, both_right, one_fails}
 use Rattle.up_worker.proofs.AfterWishes.{asks_again}
-use Rattle.up_steps.specs.Asked.{parks, may_park, without_evicts, settled_in, ticket_in, refused_in, IsNext, AreNext, IsDone, supplied, or_supplied, wanted, Comes, Brings, AllBring}
+use Rattle.up_steps.specs.Asked.{parks, without_evicts, settled_in, ticket_in, refused_in, IsNext, AreNext, IsDone, supplied, or_supplied, wanted, Comes, Brings, AllBring}
 use Rattle.up_steps.specs.Steps.{Stops}
 use Rattle.up_steps.specs.Told.{last_parks}
 use Rattle.up_steps.specs.OneThread.{AllFair, is_park}

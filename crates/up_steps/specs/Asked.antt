@@ -1,6 +1,7 @@
 -- What the entries of one line of an actor are, but for evicts, by looking back at those of the same line; and what each call brings. Entries stand newest
 -- first.
 use Rattle.std.specs.Prelude.{◌≡◌, ℕ, ◌+◌, ◌==◌, ◌||◌, ◌⊎◌, Bool, true, false, cond, Option, Some, None, List, [], ◌∷◌, ◌++◌, slice_get}
+use Rattle.up_model.specs.Answered.{may_park}
 use Rattle.up_model.specs.declared.entry.Brought.{Brought}
 use Rattle.up_model.specs.declared.entry.Brought.TheVariants.{Nothing}
 use Rattle.up_model.specs.declared.entry.Call.{Call}
@@ -19,13 +20,6 @@ abbrev pub parks : Reply → Bool
 parks (replies.Blocked ticket) = true
 parks replies.Waiting = true
 parks _ = false
-
--- a call that may park: an access, or the retry of one
-abbrev pub may_park : Call → Bool
-may_park (calls.Read piece last brought) = true
-may_park (calls.Write off bytes last brought) = true
-may_park (calls.Retry ticket brought) = true
-may_park _ = false
 
 -- the entries that are no evicts
 abbrev pub without_evicts : List Entered → List Entered

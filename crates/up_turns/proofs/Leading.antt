@@ -12,6 +12,7 @@ use Rattle.up_span.specs.Runs.{run_of}
 use Rattle.up_span.specs.Sets.{holds as has}
 use Rattle.up_span.specs.declared.run.Run.{Run}
 use Rattle.up_span.proofs.Ranges.{first_is}
+use Rattle.up_model.specs.Answered.{is_begin}
 use Rattle.up_model.proofs.Bools.{and_left, and_right, nat_eq-same}
 use Rattle.up_model.specs.Attempts.{accepts}
 use Rattle.up_model.specs.Size.{size}
@@ -31,7 +32,7 @@ use Rattle.up_claims.specs.declared.claim.Claim.{Claim}
 use Rattle.up_claims.specs.declared.claim.Claim.TheVariants.{Fetch, Back}
 use Rattle.up_claims.specs.declared.step.SiteReply.{SiteReply}
 use Rattle.up_claims.specs.declared.step.SiteReply.TheVariants as sites
-use Rattle.up_worker.specs.InStep.{suits, is_begin, BeginsAccepted}
+use Rattle.up_worker.specs.InStep.{suits, BeginsAccepted}
 use Rattle.up_worker.specs.Courses.{Entered}
 use Rattle.up_worker.specs.Thread.{of_object}
 use Rattle.up_worker.specs.Turning.{MakesCall, Does}
