@@ -11,8 +11,8 @@ use Rattle.up_model.specs.declared.entry.Call.{Call}
 use Rattle.up_model.specs.declared.entry.Call.TheVariants as calls
 use Rattle.up_model.specs.declared.entry.Entry.{Entry}
 use Rattle.up_model.specs.Bringing.{brought_in, takes_frames, bringing}
-use Rattle.up_hands.specs.Handed.{empty_hand}
-use Rattle.up_hands.specs.Carried.{brings_as, hand_for}
+use Rattle.up_steps.specs.Handed.{empty_hand}
+use Rattle.up_steps.specs.Carried.{brings_as, hand_for}
 use Rattle.up_script.specs.Actions.{suits_mode}
 use Rattle.up_script.specs.declared.script.Action.{Action}
 use Rattle.up_script.specs.declared.script.Action.TheVariants as actions

@@ -15,8 +15,8 @@ use Rattle.up_model.specs.declared.entry.Call.{Call}
 use Rattle.up_model.specs.declared.entry.Call.TheVariants as calls
 use Rattle.up_model.specs.declared.entry.Reply.{Reply}
 use Rattle.up_model.specs.declared.entry.Reply.TheVariants as replies
-use Rattle.up_hands.specs.Handed.{Handed, lives_of, births_in, AllLegal}
-use Rattle.up_hands.specs.Carried.{CarriedOut}
+use Rattle.up_steps.specs.Handed.{Handed, lives_of, births_in, AllLegal}
+use Rattle.up_steps.specs.Carried.{CarriedOut}
 use Rattle.up_steps.specs.Asked.{parks as parks_reply}
 use Rattle.up_steps.specs.OneThread.{rests}
 use Rattle.up_worker.specs.Acting.{Acting, under_way, next_wish, next_acting}

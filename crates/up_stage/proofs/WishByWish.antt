@@ -7,8 +7,8 @@ use Rattle.up_model.specs.declared.entry.Call.TheVariants as calls
 use Rattle.up_model.specs.Reply.{proper}
 use Rattle.up_model.specs.Tickets.{owner, spent}
 use Rattle.up_stage.specs.Calls.{is_numbered_birth, suits_birth, IsRightFor}
-use Rattle.up_hands.specs.Handed.{Handed, lives_of, births_in, AllLegal}
-use Rattle.up_hands.specs.Carried.{CarriedOut, IsProper, AsksForSome, is_done_here, object_of}
+use Rattle.up_steps.specs.Handed.{Handed, lives_of, births_in, AllLegal}
+use Rattle.up_steps.specs.Carried.{CarriedOut, IsProper, AsksForSome, is_done_here, object_of}
 use Rattle.up_script.specs.Actions.{suits_mode}
 use Rattle.up_steps.specs.Steps.{Setting}
 use Rattle.up_steps.specs.OneThread.{ActorEvent, entries, said_by, rests}
