@@ -19,6 +19,7 @@ ghost use Rattle.up_live.specs.Origins.{beginning_of};
 ghost use Rattle.up_live.specs.Acts.{MayAct, journal_of, Acted, Looked, StepMade, Resized, SeenNewest};
 
 use crate::live::Live;
+use crate::origin::SharedSite;
 use crate::wakes::Wakes;
 use std::alloc::Global;
 use std::sync::Wait;
@@ -26,7 +27,7 @@ use up_claims::SiteStep;
 use up_disk::Disk;
 use up_model::{Call, Role};
 use up_object::{FramesIn, Step};
-use up_site::{Site, SiteStepped};
+use up_site::SiteStepped;
 use up_turn::Pass;
 
 impl<D: Disk> Live<D> {
@@ -36,7 +37,7 @@ impl<D: Disk> Live<D> {
         &self,
         rt: &R,
         alloc: Global,
-        pass: &mut Pass<Site<D>>,
+        pass: &mut Pass<SharedSite<D>>,
         who: u32,
         epoch: u64,
         call: Call,
@@ -58,10 +59,10 @@ impl<D: Disk> Live<D> {
         ensures tally { Tally pass.new.numbers pass.new.own pass.new.seen }
     {
         let mut inside = self.go_in(rt, pass, who);
-        let stepped = inside.state.act(alloc, who, epoch, call, frames);
-        inside.state.object().is_legal();
-        inside.state.keeps();
-        let wakes = Wakes::after(inside.state.object(), &stepped);
+        let stepped = inside.state.site.act(alloc, who, epoch, call, frames);
+        inside.state.site.object().is_legal();
+        inside.state.site.keeps();
+        let wakes = Wakes::after(inside.state.site.object(), &stepped);
         self.turn.leave(pass, inside);
         self.wake_up(wakes);
         stepped
@@ -72,7 +73,7 @@ impl<D: Disk> Live<D> {
         &self,
         rt: &R,
         alloc: Global,
-        pass: &mut Pass<Site<D>>,
+        pass: &mut Pass<SharedSite<D>>,
         who: u32,
         epoch: u64,
         role: Role,
@@ -89,9 +90,9 @@ impl<D: Disk> Live<D> {
         ensures tally { Tally pass.new.numbers pass.new.own pass.new.seen }
     {
         let mut inside = self.go_in(rt, pass, who);
-        let stepped = inside.state.leave(alloc, who, epoch, role);
-        inside.state.object().is_legal();
-        let wakes = Wakes::after(inside.state.object(), &stepped);
+        let stepped = inside.state.site.leave(alloc, who, epoch, role);
+        inside.state.site.object().is_legal();
+        let wakes = Wakes::after(inside.state.site.object(), &stepped);
         self.turn.leave(pass, inside);
         self.wake_up(wakes);
         stepped
@@ -103,7 +104,7 @@ impl<D: Disk> Live<D> {
         &self,
         rt: &R,
         alloc: Global,
-        pass: &mut Pass<Site<D>>,
+        pass: &mut Pass<SharedSite<D>>,
         who: u32,
         epoch: u64,
         step: SiteStep,
@@ -123,9 +124,9 @@ impl<D: Disk> Live<D> {
         ensures tally { Tally pass.new.numbers pass.new.own pass.new.seen }
     {
         let mut inside = self.go_in(rt, pass, who);
-        let stepped = inside.state.site_step(alloc, who, epoch, step, frames);
-        inside.state.object().is_legal();
-        let wakes = Wakes::after_site(inside.state.object(), &stepped);
+        let stepped = inside.state.site.site_step(alloc, who, epoch, step, frames);
+        inside.state.site.object().is_legal();
+        let wakes = Wakes::after_site(inside.state.site.object(), &stepped);
         self.turn.leave(pass, inside);
         self.wake_up(wakes);
         stepped
@@ -137,7 +138,7 @@ impl<D: Disk> Live<D> {
         &self,
         rt: &R,
         alloc: Global,
-        pass: &mut Pass<Site<D>>,
+        pass: &mut Pass<SharedSite<D>>,
         who: u32,
         epoch: u64,
         pages: u32,
@@ -152,9 +153,9 @@ impl<D: Disk> Live<D> {
         ensures tally { Tally pass.new.numbers pass.new.own pass.new.seen }
     {
         let mut inside = self.go_in(rt, pass, who);
-        let stepped = inside.state.resize(alloc, who, epoch, pages);
-        inside.state.object().is_legal();
-        let wakes = Wakes::after_site(inside.state.object(), &stepped);
+        let stepped = inside.state.site.resize(alloc, who, epoch, pages);
+        inside.state.site.object().is_legal();
+        let wakes = Wakes::after_site(inside.state.site.object(), &stepped);
         self.turn.leave(pass, inside);
         self.wake_up(wakes);
         stepped

@@ -8,4 +8,4 @@ mod origin;
 mod wakes;
 
 pub use live::Live;
-pub use origin::SiteOrigin;
+pub use origin::{SharedSite, SiteOrigin};

@@ -8,6 +8,7 @@ ghost use Rattle.up_site.specs.Standing.{telling};
 ghost use Rattle.up_live.specs.Origins.{beginning_of};
 ghost use Rattle.up_live.specs.Acts.{MayAct, journal_of, SeenNewest, IsIn};
 
+use crate::origin::SharedSite;
 use crate::wakes::{Wakes, bits_of};
 use std::alloc::Global;
 use std::marker::Model;
@@ -21,7 +22,7 @@ use up_turn::{Held, Pass, Turn};
 
 /// A site that threads share. Each actor has a place to park.
 pub struct Live<D: Disk> {
-    pub(crate) turn: Turn<Site<D>>,
+    pub(crate) turn: Turn<SharedSite<D>>,
     pub(crate) parkers: Vec<Parker>,
     // A bit for each worker, and for each actor in a sync.
     pub(crate) workers: u64,
@@ -59,7 +60,7 @@ impl<D: Disk> Live<D> {
         site: Site<D>,
         actors: u32,
         workers: &[u32],
-    ) -> Result<(Live<D>, Pass<Site<D>>), (Memory, Site<D>)>
+    ) -> Result<(Live<D>, Pass<SharedSite<D>>), (Memory, Site<D>)>
         requires empty { site.whole.journal ≡ [] }
         requires few { actors ≤ 64 }
         requires workers { All (λ who. who < actors) workers.now }
@@ -70,7 +71,10 @@ impl<D: Disk> Live<D> {
         let Ok(parkers) = parkers_for(alloc, actors) else {
             return Err((Memory {}, site));
         };
-        let (turn, pass) = Turn::new(alloc, site, actors)?;
+        let (turn, pass) = match Turn::new(alloc, SharedSite { site }, actors) {
+            Ok(made) => made,
+            Err((memory, SharedSite { site })) => return Err((memory, site)),
+        };
         let live = Live {
             turn,
             parkers,
@@ -84,15 +88,15 @@ impl<D: Disk> Live<D> {
     pub(crate) fn go_in<R: Wait>(
         &self,
         rt: &R,
-        pass: &mut Pass<Site<D>>,
+        pass: &mut Pass<SharedSite<D>>,
         who: u32,
-    ) -> Held<Site<D>>
+    ) -> Held<SharedSite<D>>
         requires may { MayAct self.now.table pass.old who }
         ensures turn { result.turn.value ≡ self.now }
         ensures is_in { IsIn who pass.old pass.new result.state self.now.opening }
     {
         let inside = self.turn.enter(rt, pass);
-        inside.state.object().is_legal();
+        inside.state.site.object().is_legal();
         inside
     }
 
@@ -121,7 +125,7 @@ impl<D: Disk> Live<D> {
     }
 
     /// How many entries there are, by one load. It waits for nobody.
-    pub fn front(&self, pass: &mut Pass<Site<D>>) -> u64
+    pub fn front(&self, pass: &mut Pass<SharedSite<D>>) -> u64
         requires turn { pass.old.turn ≡ self.now.table }
         ensures pass { pass.new ≡ record pass.old { finds = pass.old.finds ++ result ∷ [] } }
         ensures seen { length pass.old.seen ≤ result }
@@ -132,7 +136,7 @@ impl<D: Disk> Live<D> {
     }
 
     /// A second pass, for another thread, which takes over the number of an actor that made no entry yet.
-    pub fn split(&self, pass: &mut Pass<Site<D>>, who: u32) -> Pass<Site<D>>
+    pub fn split(&self, pass: &mut Pass<SharedSite<D>>, who: u32) -> Pass<SharedSite<D>>
         requires turn { pass.old.turn ≡ self.now.table }
         requires holds { has pass.old.numbers who ≡ true }
         requires fresh { by who pass.old.own ≡ [] }
@@ -144,7 +148,7 @@ impl<D: Disk> Live<D> {
     }
 
     /// Gives up a pass. The one that stays has both passes' numbers and own entries.
-    pub fn join(&self, pass: &mut Pass<Site<D>>, other: Pass<Site<D>>)
+    pub fn join(&self, pass: &mut Pass<SharedSite<D>>, other: Pass<SharedSite<D>>)
         requires turn { (pass.old.turn ≡ self.now.table) × (other.turn ≡ self.now.table) }
         requires outside { other.inside ≡ false }
         ensures pass { pass.new ≡ joined pass.old other }
@@ -156,7 +160,7 @@ impl<D: Disk> Live<D> {
 
     /// The site at the end, once all passes were joined into one. Its journal is what the pass has seen, and that is
     /// the pass's own entries, each once.
-    pub fn close(self, pass: Pass<Site<D>>) -> Site<D>
+    pub fn close(self, pass: Pass<SharedSite<D>>) -> Site<D>
         requires turn { pass.turn ≡ self.table }
         requires outside { pass.inside ≡ false }
         requires last { IsLast self.actors pass }
@@ -174,7 +178,7 @@ impl<D: Disk> Live<D> {
             workers: _,
             syncing: _,
         } = self;
-        let site = turn.close(pass);
+        let SharedSite { site } = turn.close(pass);
         site.object().is_legal();
         site.keeps();
         site

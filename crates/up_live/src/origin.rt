@@ -1,3 +1,5 @@
+ghost use Rattle.up_live.specs.Origins.{Beginning};
+
 use std::marker::{Model, PhantomData};
 use up_disk::Disk;
 use up_site::Site;
@@ -20,17 +22,30 @@ impl<D: Disk> Model for SiteOrigin<D> {
     ghost also_owns = { λ _. ftrue };
 }
 
-impl<D: Disk> Chronicle for Site<D> {
+/// A site as the value behind a turn.
+pub struct SharedSite<D: Disk> {
+    pub(crate) site: Site<D>,
+}
+
+impl<D: Disk> Model for SharedSite<D> {
+    ghost use Rattle.up_site.specs.Hosted.{Hosted};
+
+    ghost Value = { Hosted D };
+
+    ghost view = { λ shared. shared.site };
+}
+
+impl<D: Disk> Chronicle for SharedSite<D> {
     type Origin = SiteOrigin<D>;
 
     ghost use Rattle.std.specs.Prelude.{reverse};
     ghost use Rattle.up_live.specs.Origins.{beginning_of};
 
-    ghost origin = { λ site. beginning_of site };
+    ghost origin = { λ shared. beginning_of shared };
 
-    ghost list = { λ site. reverse site.whole.journal };
+    ghost list = { λ shared. reverse shared.whole.journal };
 
     fn count(&self) -> u64 {
-        self.object().count()
+        self.site.object().count()
     }
 }
