@@ -218,10 +218,15 @@ same_whole (Ok a) now state same = tt
 same_whole (Err e) now state same = ap (λ h. h.whole) same
 
 -- nothing was given
-pub none_given : {E : Type 0} (result : Result Stepped E) (now state : Whole) → IfOk result (λ s. (kind : FrameKind) →
-    count_kind kind s.back.items + held now.birth now.journal kind ≡ held state.birth state.journal kind) → IfOk
-    result (λ s. (kind : FrameKind) → count_kind kind s.back.items + held now.birth now.journal kind ≡ count_kind
-    kind [] + held state.birth state.journal kind)
-none_given (Ok s) now state frames = λ kind. frames kind ∙ (let z : held state.birth state.journal kind ≡ 0 + held
-    state.birth state.journal kind = omega arith in z)
-none_given (Err e) now state frames = tt
+pub call_acted_bare : {D E : Type 0} (result : Result Stepped E) (who epoch : ℕ) (call : Call) (old mid new :
+    Standing) (state now opening : Hosted D) → IsIn who old mid state opening → new ≡ came_out mid (reverse
+    now.whole.journal) → IfOk result (λ s. s.reply ≡ reply_of state.whole.birth state.whole.journal who epoch call) →
+    OnOk result (now ≡ with_whole state (after state.whole who epoch call)) → IfOk result (λ s. (kind : FrameKind) →
+    count_kind kind s.back.items + held now.whole.birth now.whole.journal kind ≡ held state.whole.birth
+    state.whole.journal kind) → Legal now.whole.birth now.whole.journal → IfOk result (λ s. Acted opening.whole.birth
+    old new who epoch call [] s.back.items s.reply)
+call_acted_bare (Ok s) who epoch call old mid new state now opening i out said is frames legal =
+    call_acted (Ok s) who epoch call [] old mid new state now opening i out said is (λ kind. frames kind ∙ (let z :
+    held state.whole.birth state.whole.journal kind ≡ 0 + held state.whole.birth state.whole.journal kind = omega
+    arith in z)) legal
+call_acted_bare (Err e) who epoch call old mid new state now opening i out said is frames legal = tt
