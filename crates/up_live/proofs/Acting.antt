@@ -225,8 +225,8 @@ pub call_acted_bare : {D E : Type 0} (result : Result Stepped E) (who epoch : �
     count_kind kind s.back.items + held now.whole.birth now.whole.journal kind ≡ held state.whole.birth
     state.whole.journal kind) → Legal now.whole.birth now.whole.journal → IfOk result (λ s. Acted opening.whole.birth
     old new who epoch call [] s.back.items s.reply)
-call_acted_bare (Ok s) who epoch call old mid new state now opening i out said is frames legal =
-    call_acted (Ok s) who epoch call [] old mid new state now opening i out said is (λ kind. frames kind ∙ (let z :
+call_acted_bare {D} {E} (Ok s) who epoch call old mid new state now opening i out said is frames legal =
+    call_acted {D} {E} (Ok s) who epoch call [] old mid new state now opening i out said is (λ kind. frames kind ∙ (let z :
     held state.whole.birth state.whole.journal kind ≡ 0 + held state.whole.birth state.whole.journal kind = omega
     arith in z)) legal
 call_acted_bare (Err e) who epoch call old mid new state now opening i out said is frames legal = tt
