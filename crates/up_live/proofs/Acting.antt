@@ -49,7 +49,7 @@ pub goes_on : {D : Type 0} (who epoch : ℕ) (old mid : Standing) (state opening
     old mid state opening → Adds who epoch state.whole now → GoesOn mid.numbers mid.seen (reverse now.journal)
 goes_on who epoch old mid state opening now i a =
     let seen : reverse now.journal ≡ reverse state.whole.journal ++ a.made = ap (λ (w : Whole). reverse w.journal)
-        a.is ∙ behind who epoch state.whole.journal a.made a.by in
+    a.is ∙ behind who epoch state.whole.journal a.made a.by in
     subst (λ (m : Standing). GoesOn m.numbers m.seen (reverse now.journal)) (sym i.mid_is) (record {
       new = a.made;
       is = seen;
@@ -62,14 +62,17 @@ record CameOut (old new : Standing) (h made : List Entry) : Type 0 where
   own : new.own ≡ old.own ++ placed (length (reverse h)) made
   journal : journal_of new ≡ made ++ h
 
-came : (who epoch : ℕ) (old mid new : Standing) (h made : List Entry) (now : Whole) → mid ≡ record old { seen =
-    reverse h; inside = true } → IsStepBy who epoch made → now.journal ≡ made ++ h → new ≡ came_out mid (reverse
+came : (who epoch : ℕ) (old mid new : Standing) (h made : List Entry) (now : Whole) → mid ≡ record old {
+  seen =
+      reverse h;
+  inside = true;
+} → IsStepBy who epoch made → now.journal ≡ made ++ h → new ≡ came_out mid (reverse
     now.journal) → CameOut old new h made
 came who epoch old mid new h made now mid_is by is out =
     let log : reverse now.journal ≡ reverse h ++ made = ap reverse is ∙ behind who epoch h made by in
     let at : new ≡ came_out (record old { seen = reverse h; inside = true }) (reverse h ++ made) =
-        out ∙ (ap (λ (m : Standing). came_out m (reverse now.journal)) mid_is
-        ∙ ap (λ (l : List Entry). came_out (record old { seen = reverse h; inside = true }) l) log) in record {
+    out ∙ (ap (λ (m : Standing). came_out m (reverse now.journal)) mid_is
+    ∙ ap (λ (l : List Entry). came_out (record old { seen = reverse h; inside = true }) l) log) in record {
       seen = ap (λ (p : Standing). p.seen) at;
       own = ap (λ (p : Standing). p.own) at ∙ ap (λ (l : List Entry). old.own ++ placed (length (reverse h)) l)
           (drop_new (reverse h) made);
@@ -114,11 +117,11 @@ made_at who epoch old mid new state opening now made given back tells i out is b
     let h : List Entry = state.whole.journal in
     let birth : Birth = state.whole.birth in
     let o : CameOut old new h made = came who epoch old mid new h made now i.mid_is by (ap (λ (w : Whole). w.journal)
-        is) out in
+    is) out in
     let again : reverse (reverse h) ≡ h = reverse-reverse h in
     let lawful : Legal birth (made ++ h) = subst (λ (w : Whole). Legal w.birth w.journal) is legal in
     let even : InBalance birth h (made ++ h) given back = subst (λ (w : Whole). (kind : FrameKind) → count_kind kind
-        back + held w.birth w.journal kind ≡ count_kind kind given + held birth h kind) is frames in record {
+    back + held w.birth w.journal kind ≡ count_kind kind given + held birth h kind) is frames in record {
       before = reverse h;
       made = made;
       later = i.later;
@@ -139,7 +142,7 @@ pub looked_at : {D : Type 0} (who : ℕ) (old mid new : Standing) (state opening
 looked_at who old mid new state opening now i out is =
     let h : List Entry = state.whole.journal in
     let o : CameOut old new h [] = came who 0 old mid new h [] now i.mid_is tt (ap (λ (w : Whole). w.journal) is)
-        out in
+    out in
     let seen : new.seen ≡ reverse h = o.seen ∙ append-nil (reverse h) in
     let born : state.whole.birth ≡ opening.whole.birth = ap (λ b. b.birth) i.origin in record {
       others = subst (λ (l : List Entry). OthersSince who (journal_of old) (reverse l)) (sym seen) (others_in who old
@@ -196,8 +199,13 @@ pub call_acted : {D E : Type 0} (result : Result Stepped E) (who epoch : ℕ) (c
 call_acted (Ok s) who epoch call given old mid new state now opening i out said is frames legal =
     let born : state.whole.birth ≡ opening.whole.birth = ap (λ b. b.birth) i.origin in
     let e : Entry = record { who = who; epoch = epoch; call = call; reply = s.reply } in
-    let one : due (life_of state.whole) who epoch call ∷ [] ≡ e ∷ [] = ap (λ (r : Reply). record { who = who; epoch =
-        epoch; call = call; reply = r } ∷ []) (sym said) in
+    let one : due (life_of state.whole) who epoch call ∷ [] ≡ e ∷ [] = ap (λ (r : Reply). record {
+      who = who;
+      epoch =
+          epoch;
+      call = call;
+      reply = r;
+    } ∷ []) (sym said) in
     let whole : now.whole ≡ with_made state.whole (e ∷ []) = ap (λ h. h.whole) is ∙ ap (with_made state.whole) one in
     subst (λ (b : Birth). Acted b old new who epoch call given s.back.items s.reply) born
     (acted_by state.whole.birth old new who epoch call given s.back.items s.reply
@@ -226,7 +234,7 @@ pub call_acted_bare : {D E : Type 0} (result : Result Stepped E) (who epoch : �
     state.whole.journal kind) → Legal now.whole.birth now.whole.journal → IfOk result (λ s. Acted opening.whole.birth
     old new who epoch call [] s.back.items s.reply)
 call_acted_bare {D} {E} (Ok s) who epoch call old mid new state now opening i out said is frames legal =
-    call_acted {D} {E} (Ok s) who epoch call [] old mid new state now opening i out said is (λ kind. frames kind ∙ (let z :
+    call_acted {E = E} (Ok s) who epoch call [] old mid new state now opening i out said is (λ kind. frames kind ∙ (let z :
     held state.whole.birth state.whole.journal kind ≡ 0 + held state.whole.birth state.whole.journal kind = omega
     arith in z)) legal
 call_acted_bare (Err e) who epoch call old mid new state now opening i out said is frames legal = tt

@@ -88,8 +88,8 @@ resize_made {D} (Ok r) who epoch pages old mid new state opening now i out did f
     let birth : Birth = state.whole.birth in
     let h : List Entry = state.whole.journal in
     let does : Does birth h who epoch (resize_deed (start_of state.image) birth h pages) r.0 r.1 did.made =
-        subst (λ (d : Deed). Does birth h who epoch d r.0 r.1 did.made) (resize_is state.image birth h pages)
-        did.does in
+    subst (λ (d : Deed). Does birth h who epoch d r.0 r.1 did.made) (resize_is state.image birth h pages)
+    did.does in
     subst (λ (b : Beginning D). Resized b old new who epoch pages r.2.items r.0 r.1) i.origin
     (made_at who epoch old mid new state opening now did.made [] r.2.items (λ l made. Does birth l who epoch
     (resize_deed (start_of state.image) birth l pages) r.0 r.1 made) i out did.is (step_by birth h who epoch
@@ -187,10 +187,10 @@ pub bare_back : {E : Type 0} (result : Result (SiteReply × List ℕ × Stock) E
     state.journal kind) → IfOk result (λ r. is_bare step ≡ true → given ≡ [] → r.2.items ≡ [])
 bare_back (Ok r) who epoch step brought bytes given state now did frames = λ bare none.
     let same : HoldsSame state now = deed_holds state now who epoch (deed_of state.birth state.journal who brought bytes
-        step) r.0 r.1 (bare_moves_none state.birth state.journal who brought bytes step bare) did in
+    step) r.0 r.1 (bare_moves_none state.birth state.journal who brought bytes step bare) did in
     none_back r.2.items (λ kind. let even : count_kind kind r.2.items + held now.birth now.journal kind ≡ 0 + held
-        state.birth state.journal kind = frames kind ∙ ap (λ (l : List Frame). count_kind kind l + held state.birth
-        state.journal kind) none in
-        let still : held now.birth now.journal kind ≡ held state.birth state.journal kind = same kind in
-        let z : count_kind kind r.2.items ≡ 0 = omega arith in z)
+    state.birth state.journal kind = frames kind ∙ ap (λ (l : List Frame). count_kind kind l + held state.birth
+    state.journal kind) none in
+    let still : held now.birth now.journal kind ≡ held state.birth state.journal kind = same kind in
+    let z : count_kind kind r.2.items ≡ 0 = omega arith in z)
 bare_back (Err e) who epoch step brought bytes given state now did frames = tt

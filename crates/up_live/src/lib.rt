@@ -3,6 +3,7 @@
 #![tactic(auto)]
 
 mod calls;
+pub mod laws;
 mod live;
 mod origin;
 mod wakes;
