@@ -1,11 +1,11 @@
 -- One call through the turn: what the pass has seen, and what the call made.
-use Rattle.std.proofs.Common.{◌≡◌, ℕ, ◌+◌, ◌==◌, Bool, true, false, cond, Option, Some, None, List}
-use Rattle.std.proofs.Common.{[], ◌∷◌, ◌++◌, length, drop, refl, sym, ap, ◌∙◌, subst, arith, append-nil}
-use Rattle.std.specs.Prelude.{reverse, IsTrue, Result, Ok, Err, IfOk, OnOk, OnErr, IfErr}
+use Rattle.std.proofs.Common.{◌≡◌, ℕ, ◌+◌, true, List}
+use Rattle.std.proofs.Common.{[], ◌∷◌, ◌++◌, length, refl, sym, ap, ◌∙◌, subst, arith, append-nil}
+use Rattle.std.specs.Prelude.{reverse, IsTrue, Result, Ok, Err, IfOk, OnOk, OnErr}
 use Rattle.std.proofs.lemmas.List.{reverse-append, reverse-reverse}
 use Rattle.up_bank.specs.Standing.{Held as Frame}
 use Rattle.up_bank.specs.declared.kind.FrameKind.{FrameKind}
-use Rattle.up_pages.specs.Frames.{Stock, count_kind}
+use Rattle.up_pages.specs.Frames.{count_kind}
 use Rattle.up_model.specs.Reply.{proper, reply as reply_of}
 use Rattle.up_model.specs.Legal.{Legal, due}
 use Rattle.up_model.specs.declared.entry.Birth.{Birth}
@@ -15,13 +15,11 @@ use Rattle.up_model.specs.declared.entry.Reply.{Reply}
 use Rattle.up_object.specs.declared.step.Stepped.{Stepped}
 use Rattle.up_object.specs.Whole.{Whole, life_of, after, held}
 use Rattle.up_claims.specs.Claimed.{claim_of}
-use Rattle.up_claims.specs.declared.claim.Claim.{Claim}
 use Rattle.up_turn.specs.Placing.{placed, has, ByThese, Begins, Tally}
 use Rattle.up_turn.specs.Standing.{Standing, GoesOn, came_out}
 use Rattle.up_turn.proofs.Placings.{drop_new}
 use Rattle.up_site.specs.Hosted.{Hosted, with_whole}
 use Rattle.up_site.specs.Due.{with_made}
-use Rattle.up_live.specs.Origins.{beginning_of}
 use Rattle.up_live.specs.Others.{OthersSince}
 use Rattle.up_live.specs.Acts.{journal_of, InBalance, Acted, Looked, IsStepBy, Made, IsIn}
 use Rattle.up_live.proofs.Going.{others_since, claim_on, proper_since}

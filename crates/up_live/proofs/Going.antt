@@ -1,9 +1,9 @@
 -- What a pass has seen, and entries of others since.
-use Rattle.std.proofs.Common.{◌≡◌, ℕ, ◌+◌, ◌<◌, ◌==◌, ◌&&◌, ◌||◌, not, Bool, true, false, cond, Option, Some, None, List}
-use Rattle.std.proofs.Common.{[], ◌∷◌, ◌++◌, length, suc, refl, sym, ap, ◌∙◌, subst, arith, append-nil, append_assoc}
+use Rattle.std.proofs.Common.{◌≡◌, ℕ, ◌+◌, ◌<◌, ◌==◌, ◌&&◌, ◌||◌, not, Bool, true, false, cond, Option, Some, List}
+use Rattle.std.proofs.Common.{[], ◌∷◌, ◌++◌, length, refl, sym, ap, ◌∙◌, subst, arith}
 use Rattle.std.specs.Prelude.{reverse, IsTrue}
-use Rattle.std.proofs.lemmas.List.{reverse-append, reverse-reverse}
-use Rattle.up_model.specs.Attempts.{blocks, is_blocked}
+use Rattle.std.proofs.lemmas.List.{reverse-append}
+use Rattle.up_model.specs.Attempts.{blocks}
 use Rattle.up_model.specs.Tickets.{next_ticket, owner, spent, retries, keeps_ticket}
 use Rattle.up_model.specs.Reply.{proper, is_by, counts_frames}
 use Rattle.up_model.specs.Legal.{Legal}

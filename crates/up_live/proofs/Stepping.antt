@@ -1,27 +1,24 @@
 -- One step of the sample pager, or a resize, through the turn.
 use Rattle.std.proofs.Common.{◌≡◌, ℕ, ◌+◌, Bool, true, false, cond, Option, Some, None, List}
-use Rattle.std.proofs.Common.{[], ◌∷◌, ◌++◌, length, refl, sym, ap, ◌∙◌, subst, arith}
+use Rattle.std.proofs.Common.{[], refl, sym, ap, ◌∙◌, subst, arith}
 use Rattle.std.specs.Prelude.{reverse, option_map, Result, Ok, Err, IfOk, OnErr}
 use Rattle.up_num.specs.Span.{Span}
 use Rattle.up_span.specs.Sets.{holds as has_page}
 use Rattle.up_bank.specs.Standing.{Held as Frame}
 use Rattle.up_bank.specs.declared.kind.FrameKind.{FrameKind}
 use Rattle.up_pages.specs.Frames.{Stock, count_kind}
-use Rattle.up_num.specs.declared.answers.AskKind.{AskKind}
-use Rattle.up_num.specs.declared.answers.AskKind.TheVariants.{Read as ReadAsk, Dirty as DirtyAsk}
-use Rattle.up_model.specs.Legal.{Legal, due}
-use Rattle.up_model.specs.States.{unclean}
+use Rattle.up_model.specs.Legal.{Legal}
 use Rattle.up_model.specs.declared.entry.Birth.{Birth}
 use Rattle.up_model.specs.declared.entry.Brought.{Brought}
 use Rattle.up_model.specs.declared.entry.Entry.{Entry}
 use Rattle.up_model.specs.declared.entry.Call.{Call}
 use Rattle.up_model.specs.declared.entry.Call.TheVariants as calls
-use Rattle.up_object.specs.Whole.{Whole, life_of, after, held}
+use Rattle.up_object.specs.Whole.{Whole, after, held}
 use Rattle.up_claims.specs.Claimed.{claim_of}
 use Rattle.up_claims.specs.Listed.{claim_over}
-use Rattle.up_claims.specs.Sited.{Deed, Rests, Makes, Tells, Fact, tell_of, or_next, least, is_free, is_denied}
-use Rattle.up_claims.specs.Sited.{begins_at, begins_run, busy_over, busy_at, picked_from, copies, stores, finishes}
-use Rattle.up_claims.specs.Sited.{denies, deed_of}
+use Rattle.up_claims.specs.Sited.{Deed, Rests, Makes, Tells, tell_of, or_next, least, is_free, is_denied}
+use Rattle.up_claims.specs.Sited.{begins_at, busy_over, busy_at, copies, stores, finishes}
+use Rattle.up_claims.specs.Sited.{deed_of}
 use Rattle.up_claims.specs.declared.claim.Claim.{Claim}
 use Rattle.up_claims.specs.declared.claim.Claim.TheVariants.{Fetch, Back}
 use Rattle.up_claims.specs.declared.step.SiteReply.{SiteReply}
@@ -30,12 +27,12 @@ use Rattle.up_claims.specs.declared.step.SiteStep.TheVariants as steps
 use Rattle.up_turn.specs.Standing.{Standing, came_out}
 use Rattle.up_site.specs.Hosted.{Hosted, start_of}
 use Rattle.up_site.specs.Sited.{Sited}
-use Rattle.up_site.specs.Due.{MakesEntry, Does, Did, with_made, woken_by, went_well, HoldsSame}
+use Rattle.up_site.specs.Due.{MakesEntry, Does, Did, with_made, went_well, HoldsSame}
 use Rattle.up_site.specs.Reaching.{resize_due}
 use Rattle.up_site.specs.Steps.{is_bare}
 use Rattle.up_site.proofs.Unmoved.{packet_holds, tell_holds, fail_holds, begin_holds, end_holds, none_back}
 use Rattle.up_live.specs.Origins.{Beginning, beginning_of}
-use Rattle.up_live.specs.Acts.{IsStepBy, Made, StepDoes, StepMade, resize_deed, Resized, IsIn}
+use Rattle.up_live.specs.Acts.{IsStepBy, StepDoes, StepMade, resize_deed, Resized, IsIn}
 use Rattle.up_live.proofs.Acting.{Adds, made_at}
 
 -- a step makes at most one entry, by its actor in its epoch

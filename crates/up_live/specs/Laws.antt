@@ -1,5 +1,5 @@
 -- What an actor owes for a call is read off what its pass has seen: entries of others since don't change it.
-use Rattle.std.specs.Prelude.{◌≡◌, ℕ, Bool, List, IsTrue}
+use Rattle.std.specs.Prelude.{◌≡◌, ℕ, List, IsTrue}
 use Rattle.up_model.specs.Reply.{proper}
 use Rattle.up_model.specs.Legal.{Legal}
 use Rattle.up_model.specs.declared.entry.Birth.{Birth}

@@ -1,4 +1,4 @@
-use Rattle.std.proofs.Common.{◌≡◌, sym, ap, subst}
+use Rattle.std.proofs.Common.{sym, ap, subst}
 use Rattle.up_object.specs.Whole.{Whole}
 use Rattle.up_object.specs.OneCall.{frames_of}
 use Rattle.up_model.specs.Legal.{Legal}

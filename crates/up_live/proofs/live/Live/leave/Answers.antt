@@ -1,4 +1,4 @@
-use Rattle.std.proofs.Common.{◌≡◌, sym, ap, subst}
+use Rattle.std.proofs.Common.{sym, ap, subst}
 use Rattle.up_model.specs.declared.entry.Call.TheVariants as calls
 use Rattle.up_object.specs.Whole.{Whole}
 use Rattle.up_model.specs.Legal.{Legal}
