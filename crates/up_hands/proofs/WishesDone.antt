@@ -186,7 +186,7 @@ carried_loan births old new who answer g stood t =
     record {
       made = [];
       is = t.now ∙ rw (stood, t.told) refl;
-      carries = record { brought = t.brought; told = t.told; own = tt };
+      carries = record { brought = t.brought; told = t.told; none = refl };
       exact = (t.brought, t.told, refl, t.is ∙ ap (λ (n : ℕ). cond (nat_le 1 n) (Frames 1) Scanned) (sym (loans_are births old g stood)));
       epoch = tt;
     }

@@ -188,7 +188,7 @@ parking births made g who (wishes.Act object call) answer legal one on =
 parking births made g who (wishes.Resize object pages) answer legal one on = subst AllFair (sym one.is)
     (record { parking = λ p. absurd (settles_parks one.entry.reply one.settled p); giving = λ evicts. absurd (let no_evict : false ≡ true = ap is_evict (sym one.of_call) ∙ evicts in cc) }, tt)
 parking births made g who (wishes.Gather count) answer legal some on = evicts_park_none who made some.own
-parking births made g who wishes.Loan answer legal some on = evicts_park_none who made some.own
+parking births made g who wishes.Loan answer legal none on = subst AllFair (sym none.none) tt
 parking births made g who (wishes.Park object) answer legal none on = subst AllFair (sym none.none) tt
 parking births made g who wishes.Age answer legal none on = subst AllFair (sym none.none) tt
 parking births made g who wishes.Keep answer legal none on = subst AllFair (sym none.none) tt

@@ -1,7 +1,6 @@
 -- Turns and syncs decide their entries.
-use Rattle.std.proofs.Common.{◌≡◌, ℕ, ◌-◌, ◌==◌, ◌++◌, Bool, true, false, cond, nat_le, Option, Some, None, List, [], ◌∷◌, zero, suc, refl, sym, ap, ◌∙◌, subst, append_assoc}
+use Rattle.std.proofs.Common.{◌≡◌, ℕ, ◌-◌, ◌++◌, Bool, true, false, cond, nat_le, Option, Some, None, List, [], ◌∷◌, zero, suc, refl, sym, ap, ◌∙◌, subst, append_assoc}
 use Rattle.std.proofs.lemmas.Bool.{false≢true}
-use Rattle.up_num.specs.declared.pages.PageNo.{PageNo}
 use Rattle.up_span.specs.declared.run.Run.{Run}
 use Rattle.up_evictor.specs.Levels.{age_limits}
 use Rattle.up_evictor.specs.Relief.{turns}
@@ -11,7 +10,6 @@ use Rattle.up_model.specs.declared.entry.Brought.{Brought}
 use Rattle.up_model.specs.declared.entry.Brought.TheVariants.{Nothing, Frames, Scanned}
 use Rattle.up_model.specs.declared.entry.Call.{Call}
 use Rattle.up_model.specs.declared.entry.Call.TheVariants as calls
-use Rattle.up_model.specs.declared.entry.Entry.{Entry}
 use Rattle.up_model.specs.declared.entry.Reply.{Reply}
 use Rattle.up_num.specs.declared.answers.Code.TheVariants.{Io}
 use Rattle.up_claims.specs.Claimed.{one_page, claim_of}
@@ -24,14 +22,14 @@ use Rattle.up_claims.specs.declared.step.SiteStep.{SiteStep}
 use Rattle.up_claims.specs.declared.step.SiteStep.TheVariants as steps
 use Rattle.up_worker.specs.Courses.{Entered, OwnEvicts}
 use Rattle.up_worker.specs.Program.{step_of, task_after, sync_after, set_after, is_busy, frames_first, frames_asked}
-use Rattle.up_worker.specs.Thread.{of_object, exact, GathersExactly, reclaims_of}
+use Rattle.up_worker.specs.Thread.{of_object, exact}
 use Rattle.up_worker.specs.Turning.{MakesCall, Does, StepDone, Gathered, Tries, Once, Again, TaskDone, Bare, Framed, TurnSteps, SyncEnd, Parked, Done, SyncSteps, Parks, Ends, Next}
 use Rattle.up_worker.specs.declared.task.Task.{Task}
-use Rattle.up_steps.specs.Deciding.{IsGiven, GivenBy, IsFixed, TurnsDecide, SyncsDecide, LegalTurnsDecide, LegalSyncsDecide}
+use Rattle.up_steps.specs.Deciding.{IsGiven, GivenBy, TurnsDecide, SyncsDecide, LegalTurnsDecide, LegalSyncsDecide}
 use Rattle.up_steps.specs.Laws.{Answered}
-use Rattle.up_steps.specs.Steps.{AllBy, AllAt, Stops}
+use Rattle.up_steps.specs.Steps.{AllAt, Stops}
 use Rattle.up_steps.proofs.EvictorAnswers.{stops_alone}
-use Rattle.up_steps.proofs.GrowingLists.{Chain, Common, commons, same_entry}
+use Rattle.up_steps.proofs.GrowingLists.{Chain, Common, same_entry}
 use Rattle.up_steps.proofs.LegalReplies.{due_by, answered}
 use Rattle.up_steps.proofs.LineSteps.{relief_once}
 

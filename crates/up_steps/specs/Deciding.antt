@@ -1,5 +1,5 @@
 -- That a worker's turns and a user's sync decide their entries, once it is given what came of each call on a disk, and which bytes were read.
-use Rattle.std.specs.Prelude.{◌≡◌, ℕ, Bool, true, false, List, [], ◌∷◌, ◌++◌}
+use Rattle.std.specs.Prelude.{◌≡◌, ℕ, Bool, List, [], ◌∷◌, ◌++◌}
 use Rattle.up_span.specs.declared.run.Run.{Run}
 use Rattle.up_model.specs.declared.entry.Birth.{Birth}
 use Rattle.up_model.specs.declared.entry.Call.{Call}

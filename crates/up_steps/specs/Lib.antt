@@ -6,4 +6,5 @@ pub mod Handed
 pub mod Carried
 pub mod Laws
 pub mod Row
+pub mod Worked
 pub mod Deciding

@@ -2,6 +2,7 @@
 
 ghost use Rattle.up_steps.specs.Laws.{StepsFollow, StepsDecide, LinesDecide, KeepsRules};
 ghost use Rattle.up_steps.specs.Deciding.{TurnsDecide, SyncsDecide, LegalTurnsDecide, LegalSyncsDecide};
+ghost use Rattle.up_steps.specs.Worked.{WaitsAreSteps, ChangesAreSteps, LoansAreSteps, ReliefsAreSteps};
 ghost use Rattle.up_steps.specs.Row.{IsOneThreads, HasItsSteps, RefusesMore, RefusesOther, RefusesNothing, TellsNoOthers};
 
 /// Where each event follows on what its actor said, is done exactly, and the lines are gone through in order, all entries are the steps of these lines.
@@ -35,6 +36,15 @@ pub fn each_actor_keeps_the_rules()
 pub fn a_small_script_is_done_so()
     ensures happens { IsOneThreads }
     ensures steps { HasItsSteps }
+{}
+
+/// Four worked scripts have their steps: between them they have each form of line that is done, accesses that wait and are failed,
+/// lines that are put off, calls that are told how many frames they need, loans, reliefs, and a scan where reliefs give none.
+pub fn worked_scripts_have_their_steps()
+    ensures waits { WaitsAreSteps }
+    ensures changes { ChangesAreSteps }
+    ensures loans { LoansAreSteps }
+    ensures reliefs { ReliefsAreSteps }
 {}
 
 /// One frame too many, an entry of another actor, and a line that isn't done are no steps of a line. A turn and a sync
