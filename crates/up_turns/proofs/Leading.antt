@@ -84,11 +84,11 @@ FirstFound test count found = MatchOption found
     (λ page. (within 0 count page ≡ true) × ((test page ≡ true) × ((earlier : ℕ) → 0 ≤ earlier
     → earlier < page → test earlier ≡ false)))
 
-found_passes : (test : ℕ → Bool) (count p : ℕ) → first_page test 0 count ≡ Some p → test p ≡ true
+pub found_passes : (test : ℕ → Bool) (count p : ℕ) → first_page test 0 count ≡ Some p → test p ≡ true
 found_passes test count p is = (subst (λ (o : Option ℕ). FirstFound test count o) is
     (first_is test 0 count)).1.0
 
-some_first : (t : Bool) (k : ℕ) → t ≡ true → nat_lt 0 (cond t (suc k) 0) ≡ true
+pub some_first : (t : Bool) (k : ℕ) → t ≡ true → nat_lt 0 (cond t (suc k) 0) ≡ true
 some_first true k is = grind (arith, nat_tests)
 some_first false k is = absurd cc
 
@@ -96,7 +96,7 @@ pub same_self : (b : Bool) → same_test b b ≡ true
 same_self true = refl
 same_self false = refl
 
-both : (a b : Bool) → a ≡ true → b ≡ true → (a && b) ≡ true
+pub both : (a b : Bool) → a ≡ true → b ≡ true → (a && b) ≡ true
 both true b one two = two
 both false b one two = one
 

@@ -3,3 +3,4 @@ pub mod Syncs
 pub mod Leading
 pub mod Suiting
 pub mod SmallTurn
+mod TourSteps
