@@ -1,5 +1,5 @@
 //! The calls of a worked journal, made on a site over a disk in memory.
-ghost use Rattle.std.specs.Prelude.{◌≡◌, ◌≤◌, length, IfOk, IfErr, IfSome};
+ghost use Rattle.std.specs.Prelude.{◌≡◌, ◌<◌, ◌≤◌, length, true, IfOk, IfErr, IfSome};
 ghost use Rattle.up_model.specs.Reply.{counts_frames};
 ghost use Rattle.up_object.specs.Change.{AllOwn};
 ghost use Rattle.up_site.specs.Standing.{most_pages};
@@ -8,7 +8,7 @@ ghost use Rattle.up_site_trials.specs.Over.{IsOver};
 use crate::steps::{may_act, pages_of, step_of};
 use std::alloc::Global;
 use up_bank::FrameKind;
-use up_check::{Pool, Sizes, brought_by, call_with, is_fair, kind_of, may_call};
+use up_check::{ReplayBanks, Sizes, is_fair, kind_of, may_call};
 use up_claims::{SiteReply, SiteStep};
 use up_disk::MemDisk;
 use up_model::{Birth, Brought, Call, Entries, Entry, Role};
@@ -53,14 +53,32 @@ pub(crate) fn make_all(
         ordinary: 8,
         loaned: 1,
     };
-    let mut pool = Pool::new(alloc, sizes)?;
-    let object = pool.birth(alloc, birth)?;
+    let mut banks = ReplayBanks::new(alloc, sizes)?;
+    let made = make_over(alloc, &mut banks, worked, disk);
+    banks.end();
+    made
+}
+
+/// The same, with frames of these banks.
+fn make_over(
+    alloc: Global,
+    banks: &mut ReplayBanks,
+    worked: &Named,
+    disk: MemDisk,
+) -> Result<Option<Made>, Memory>
+    requires image { worked.now.birth.image ≡ true }
+    requires users { (0 < worked.now.birth.users) × (worked.now.birth.users ≤ 64) }
+    requires pagers { (0 < worked.now.birth.pagers) × (worked.now.birth.pagers ≤ 64) }
+    requires room { most_pages worked.now.birth ≤ length disk.start }
+    ensures { IfOk result (λ made. IfSome made (λ made. made.most ≤ length made.disk.start)) }
+{
+    let object = banks.birth(alloc, worked.birth)?;
     let mut site = Site::new(alloc, object, Some(disk));
-    let made = make_each(alloc, &mut site, &mut pool, worked.entries.as_slice());
+    let made = make_each(alloc, &mut site, banks, worked.entries.as_slice());
     let (object, disk) = site.close();
     let most = most_pages(&object.born());
     let (entries, held) = object.end();
-    pool.bring_home(held);
+    banks.bring_home(held);
     made?;
     match disk {
         Some(disk) => Ok(Some(Made {
@@ -75,15 +93,15 @@ pub(crate) fn make_all(
 fn make_each(
     alloc: Global,
     site: &mut Site<MemDisk>,
-    pool: &mut Pool,
+    banks: &mut ReplayBanks,
     entries: &[Entry],
 ) -> Result<(), Memory>
-    requires over { IsOver site.old pool.old }
-    ensures over { IsOver site.new pool.new }
-    ensures same { pool.new ≡ pool.old }
+    requires over { IsOver site.old banks.old }
+    ensures over { IsOver site.new banks.new }
+    ensures same { banks.new ≡ banks.old }
 {
     for entry in entries {
-        make(alloc, site, pool, entry)?;
+        make(alloc, site, banks, entry)?;
     }
     Ok(())
 }
@@ -92,22 +110,22 @@ fn make_each(
 fn make(
     alloc: Global,
     site: &mut Site<MemDisk>,
-    pool: &mut Pool,
+    banks: &mut ReplayBanks,
     entry: &Entry,
 ) -> Result<(), Memory>
-    requires over { IsOver site.old pool.old }
-    ensures over { IsOver site.new pool.new }
-    ensures same { pool.new ≡ pool.old }
+    requires over { IsOver site.old banks.old }
+    ensures over { IsOver site.new banks.new }
+    ensures same { banks.new ≡ banks.old }
 {
     if let Some(step) = step_of(&entry.call) {
-        return make_step(alloc, site, pool, entry, step);
+        return make_step(alloc, site, banks, entry, step);
     }
     if let Some(pages) = pages_of(&entry.call) {
-        return resize(alloc, site, pool, entry, pages);
+        return resize(alloc, site, banks, entry, pages);
     }
     match entry.call {
-        Call::Leave { role } => leave(alloc, site, pool, entry, role),
-        _ => act(alloc, site, pool, entry),
+        Call::Leave { role } => leave(alloc, site, banks, entry, role),
+        _ => act(alloc, site, banks, entry),
     }
 }
 
@@ -115,25 +133,25 @@ fn make(
 fn make_step(
     alloc: Global,
     site: &mut Site<MemDisk>,
-    pool: &mut Pool,
+    banks: &mut ReplayBanks,
     entry: &Entry,
     step: SiteStep,
 ) -> Result<(), Memory>
-    requires over { IsOver site.old pool.old }
-    ensures over { IsOver site.new pool.new }
-    ensures same { pool.new ≡ pool.old }
+    requires over { IsOver site.old banks.old }
+    ensures over { IsOver site.new banks.new }
+    ensures same { banks.new ≡ banks.old }
 {
     let users = site.object().born().users;
     if matches!(entry.call, Call::Begin { .. }) && entry.who < users {
-        let Some(found) = take_step(alloc, site, pool, entry, SiteStep::Survey)? else {
+        let Some(found) = take_step(alloc, site, banks, entry, SiteStep::Survey)? else {
             return Ok(());
         };
         if let SiteReply::Surveyed(set) = found {
-            take_step(alloc, site, pool, entry, SiteStep::PickFrom(set))?;
+            take_step(alloc, site, banks, entry, SiteStep::PickFrom(set))?;
         }
         return Ok(());
     }
-    take_step(alloc, site, pool, entry, step)?;
+    take_step(alloc, site, banks, entry, step)?;
     Ok(())
 }
 
@@ -141,28 +159,28 @@ fn make_step(
 fn take_step(
     alloc: Global,
     site: &mut Site<MemDisk>,
-    pool: &mut Pool,
+    banks: &mut ReplayBanks,
     entry: &Entry,
     step: SiteStep,
 ) -> Result<Option<SiteReply>, Memory>
-    requires over { IsOver site.old pool.old }
-    ensures over { IsOver site.new pool.new }
-    ensures same { pool.new ≡ pool.old }
+    requires over { IsOver site.old banks.old }
+    ensures over { IsOver site.new banks.new }
+    ensures same { banks.new ≡ banks.old }
 {
-    let brought = brought_by(&entry.call);
+    let brought = entry.call.brought();
     if !counts(brought) || !site.may_step(entry.who, &step, brought) {
         return Ok(None);
     }
-    let Some(frames) = pool.hand(alloc, FrameKind::Ordinary, brought)? else {
+    let Some(frames) = banks.hand(alloc, FrameKind::Ordinary, brought)? else {
         return Ok(None);
     };
     match site.site_step(alloc, entry.who, entry.epoch, step, frames) {
         Ok((answer, _woke, back)) => {
-            pool.bring_home(back);
+            banks.bring_home(back);
             Ok(Some(answer))
         }
         Err((memory, back)) => {
-            pool.bring_home(back);
+            banks.bring_home(back);
             Err(memory)
         }
     }
@@ -171,21 +189,21 @@ fn take_step(
 fn resize(
     alloc: Global,
     site: &mut Site<MemDisk>,
-    pool: &mut Pool,
+    banks: &mut ReplayBanks,
     entry: &Entry,
     pages: u32,
 ) -> Result<(), Memory>
-    requires over { IsOver site.old pool.old }
-    ensures over { IsOver site.new pool.new }
-    ensures same { pool.new ≡ pool.old }
+    requires over { IsOver site.old banks.old }
+    ensures over { IsOver site.new banks.new }
+    ensures same { banks.new ≡ banks.old }
 {
     match site.resize(alloc, entry.who, entry.epoch, pages) {
         Ok((_answer, _woke, back)) => {
-            pool.bring_home(back);
+            banks.bring_home(back);
             Ok(())
         }
         Err((memory, back)) => {
-            pool.bring_home(back);
+            banks.bring_home(back);
             Err(memory)
         }
     }
@@ -194,53 +212,53 @@ fn resize(
 fn leave(
     alloc: Global,
     site: &mut Site<MemDisk>,
-    pool: &mut Pool,
+    banks: &mut ReplayBanks,
     entry: &Entry,
     role: Role,
 ) -> Result<(), Memory>
-    requires over { IsOver site.old pool.old }
-    ensures over { IsOver site.new pool.new }
-    ensures same { pool.new ≡ pool.old }
+    requires over { IsOver site.old banks.old }
+    ensures over { IsOver site.new banks.new }
+    ensures same { banks.new ≡ banks.old }
 {
     let left = site.leave(alloc, entry.who, entry.epoch, role);
-    bring_back(pool, left)
+    bring_back(banks, left)
 }
 
 fn act(
     alloc: Global,
     site: &mut Site<MemDisk>,
-    pool: &mut Pool,
+    banks: &mut ReplayBanks,
     entry: &Entry,
 ) -> Result<(), Memory>
-    requires over { IsOver site.old pool.old }
-    ensures over { IsOver site.new pool.new }
-    ensures same { pool.new ≡ pool.old }
+    requires over { IsOver site.old banks.old }
+    ensures over { IsOver site.new banks.new }
+    ensures same { banks.new ≡ banks.old }
 {
-    let brought = brought_by(&entry.call);
-    let call = call_with(alloc, &entry.call, brought)?;
+    let brought = entry.call.brought();
+    let call = entry.call.copy_bringing(alloc, brought)?;
     if !counts(brought) || !may_act(&call) || !may_call(site.object(), entry.who, &call) {
         return Ok(());
     }
-    let Some(frames) = pool.hand(alloc, kind_of(&call), brought)? else {
+    let Some(frames) = banks.hand(alloc, kind_of(&call), brought)? else {
         return Ok(());
     };
     let acted = site.act(alloc, entry.who, entry.epoch, call, frames);
-    bring_back(pool, acted)
+    bring_back(banks, acted)
 }
 
 /// What came back of a call goes home.
-fn bring_back(pool: &mut Pool, step: Step) -> Result<(), Memory>
-    requires ok { IfOk step (λ s. AllOwn pool.old s.back.items) }
-    requires err { IfErr step (λ failed. AllOwn pool.old failed.1.items) }
-    ensures { pool.new ≡ pool.old }
+fn bring_back(banks: &mut ReplayBanks, step: Step) -> Result<(), Memory>
+    requires ok { IfOk step (λ s. AllOwn banks.old s.back.items) }
+    requires err { IfErr step (λ failed. AllOwn banks.old failed.1.items) }
+    ensures { banks.new ≡ banks.old }
 {
     match step {
         Ok(Stepped { reply: _, back }) => {
-            pool.bring_home(back);
+            banks.bring_home(back);
             Ok(())
         }
         Err((memory, back)) => {
-            pool.bring_home(back);
+            banks.bring_home(back);
             Err(memory)
         }
     }

@@ -4,6 +4,6 @@ use Rattle.up_site_trials.proofs.making.make_each.Given as goal
 
 abbrev pub invariant-loop-entry : goal.invariant-loop-entry
 invariant-loop-entry l = record {
-  over : IsOver l.site l.pool;
-  same : l.pool ≡ l.fn.pool;
+  over : IsOver l.site l.banks;
+  same : l.banks ≡ l.fn.banks;
 }

@@ -2,7 +2,7 @@ use Rattle.std.proofs.Common.{rules, ◌≡◌, ◌≤◌, Some, length, subst, 
 use Rattle.up_site.specs.Hosted.{disk_of}
 use Rattle.up_site.specs.Standing.{most_pages}
 use Rattle.up_site_trials.proofs.Kept.{room_kept}
-use Rattle.up_site_trials.proofs.making.make_all.Goals as goal
+use Rattle.up_site_trials.proofs.making.make_over.Goals as goal
 
 pub returns-in-Some : goal.returns-in-Some
 returns-in-Some c =
