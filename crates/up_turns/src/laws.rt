@@ -1,7 +1,7 @@
 //! What a worker's turns and a user's sync are, as entries of their object.
 
 ghost use Rattle.up_turns.specs.Laws.{TurnsAreSteps, SyncsAreSteps, NextSuits, NextSyncSuits, AskingStays, EvictsStay, OthersStay, StepFits, FramedStepFits};
-ghost use Rattle.up_turns.specs.Touring.{StepsMakeTours};
+ghost use Rattle.up_turns.specs.Touring.{StepsMakeTours, TurnsMakeTours, SyncsMakeTours};
 
 /// What is made for the wishes of a worker's turns, up to their end, is so many steps, from the task that the
 /// worker had.
@@ -35,4 +35,11 @@ pub fn a_task_that_goes_with_its_claim_may_be_done()
 /// entries on an object are tours.
 pub fn steps_make_tours()
     ensures { StepsMakeTours }
+{}
+
+/// A worker's turns and a sync make tours, where they begin with a task that goes with the claim and each begin is
+/// accepted; so the next turn begins with such a task too.
+pub fn turns_and_syncs_make_tours()
+    ensures turns { TurnsMakeTours }
+    ensures syncs { SyncsMakeTours }
 {}

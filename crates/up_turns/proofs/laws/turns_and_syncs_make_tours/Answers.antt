@@ -1,0 +1,8 @@
+use Rattle.up_turns.proofs.LineTours.{turns_toured, syncs_toured}
+use Rattle.up_turns.proofs.laws.turns_and_syncs_make_tours.Goals as goal
+
+pub returns-clause-turns : goal.returns-clause-turns
+returns-clause-turns c = turns_toured
+
+pub returns-clause-syncs : goal.returns-clause-syncs
+returns-clause-syncs c = syncs_toured
