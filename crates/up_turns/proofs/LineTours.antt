@@ -1,22 +1,23 @@
 -- The entries of a worker's turns and of a sync are tours.
-use Rattle.std.proofs.Common.{◌≡◌, ℕ, ◌⊎◌, ◌++◌, true, Option, List, [], ◌∷◌, zero, suc, refl, sym, subst, inl, inr}
+use Rattle.std.proofs.Common.{◌≡◌, ℕ, ◌⊎◌, ◌++◌, true, Option, List, [], ◌∷◌, zero, suc, refl, sym, subst, inl, inr, Some, None}
 use Rattle.std.proofs.lemmas.List.{append_assoc}
 use Rattle.up_span.specs.declared.run.Run.{Run}
 use Rattle.up_model.specs.declared.entry.Birth.{Birth}
 use Rattle.up_model.specs.declared.entry.Brought.{Brought}
 use Rattle.up_claims.specs.declared.claim.Claim.{Claim}
 use Rattle.up_claims.specs.declared.step.SiteReply.{SiteReply}
-use Rattle.up_claims.specs.declared.step.SiteReply.TheVariants.{Needs}
+use Rattle.up_claims.specs.declared.step.SiteReply.TheVariants.{Needs, Busy}
 use Rattle.up_worker.specs.Frames.{Judge}
 use Rattle.up_worker.specs.InStep.{suits, BeginsAccepted}
 use Rattle.up_worker.specs.Courses.{Entered, OwnEvicts}
-use Rattle.up_worker.specs.Program.{step_of, task_after}
+use Rattle.up_worker.specs.Program.{step_of, task_after, sync_after, is_busy}
 use Rattle.up_worker.specs.Thread.{exact}
-use Rattle.up_worker.specs.Turning.{Tries, Once, Again, TaskDone, Bare, Framed, TurnSteps, Parks, Ends, Next}
+use Rattle.up_worker.specs.Turning.{Tries, Once, Again, TaskDone, Bare, Framed, TurnSteps, Parks, Ends, Next, Parked, Done, SyncEnd, SyncSteps}
 use Rattle.up_worker.specs.declared.task.Task.{Task}
+use Rattle.up_worker.specs.declared.task.Task.TheVariants as tasks
 use Rattle.up_turns.specs.Laws.{claim_in}
-use Rattle.up_turns.specs.Touring.{IsOwnEvict, IsOnTour, EachOnTour, AreTours, TurnsMakeTours, SyncsMakeTours}
-use Rattle.up_turns.proofs.Suiting.{next_suits, next_sync_suits, asking_stays, evicts_stay}
+use Rattle.up_turns.specs.Touring.{IsOwnEvict, IsOnTour, EachOnTour, AreTours, TurnsMakeTours, SyncsMakeTours, WaitsWithoutClaim}
+use Rattle.up_turns.proofs.Suiting.{no_claim, next_suits, next_sync_suits, asking_stays, evicts_stay}
 use Rattle.up_turns.proofs.TourSteps.{step_on_tour}
 
 begins_now : (now old : List Entered) → BeginsAccepted (now ++ old) → BeginsAccepted now
@@ -127,3 +128,28 @@ syncs_toured births who object t s past all over (Next task set before made answ
     let behind = next_sync_suits births who object task next set _ before made answer goes did (begins_old rest made accepted) after in
     tours_join who object before made rest (each_tours who object before made now)
     (syncs_toured births who object next _ (made ++ before) rest end steps behind (begins_now rest made accepted))
+
+-- a sync waits where it is to pick again
+busy_picks : (answer : SiteReply) → is_busy answer ≡ true → sync_after answer ≡ Some tasks.PickFrom
+busy_picks (Busy range) busy = refl
+busy_picks _ busy = absurd cc
+
+abbrev Waits : SyncEnd → Option Claim → Type 0
+Waits (Parked left) claim = claim ≡ None
+Waits Done claim = Unit {0}
+
+waits_bare : (births : ℕ → Birth) (who object : ℕ) (task : Task) (set : List Run) (start made : List Entered) (end : SyncEnd)
+    → SyncSteps births who object task set start made end → suits task (claim_in start object who) ≡ true → BeginsAccepted made
+    → Waits end (claim_in (made ++ start) object who)
+waits_bare births who object t s past all over (Parks task set before made answer did busy) goes accepted =
+    no_claim tasks.PickFrom (claim_in (made ++ before) object who) refl
+    (next_sync_suits births who object task tasks.PickFrom set _ before made answer goes did accepted (busy_picks answer busy))
+waits_bare births who object t s past all over (Ends task set before made answer did none) goes accepted = tt
+waits_bare births who object t s past all over (Next task set before made answer next rest end did free after steps) goes accepted =
+    let behind = next_sync_suits births who object task next set _ before made answer goes did (begins_old rest made accepted) after in
+    subst (λ (xs : List Entered). Waits end (claim_in xs object who)) (sym (append_assoc rest made before))
+    (waits_bare births who object next _ (made ++ before) rest end steps behind (begins_now rest made accepted))
+
+pub waits_without : WaitsWithoutClaim
+waits_without births who object task set left start made steps goes accepted =
+    waits_bare births who object task set start made (Parked left) steps goes accepted

@@ -19,7 +19,7 @@ use Rattle.up_worker.specs.Courses.{Entered, is_evict}
 use Rattle.up_worker.specs.InStep.{suits, BeginsAccepted}
 use Rattle.up_worker.specs.Program.{step_of}
 use Rattle.up_worker.specs.Thread.{exact}
-use Rattle.up_worker.specs.Turning.{StepDone, TurnSteps, SyncSteps, SyncEnd}
+use Rattle.up_worker.specs.Turning.{StepDone, TurnSteps, SyncSteps, SyncEnd, Parked}
 use Rattle.up_worker.specs.declared.task.Task.{Task}
 use Rattle.up_turns.specs.Laws.{claim_in}
 
@@ -92,3 +92,11 @@ SyncsMakeTours = (births : ℕ
     → Birth) (who object : ℕ) (task : Task) (set : List Run) (start made : List Entered) (end : SyncEnd)
     → SyncSteps births who object task set start made end → suits task (claim_in start object who) ≡ true
     → BeginsAccepted made → AreTours who object start made
+
+-- a sync that waits has no claim
+abbrev pub WaitsWithoutClaim : Type 0
+WaitsWithoutClaim = (births : ℕ
+    → Birth) (who object : ℕ) (task : Task) (set left : List Run) (start made : List Entered)
+    → SyncSteps births who object task set start made (Parked left)
+    → suits task (claim_in start object who) ≡ true → BeginsAccepted made
+    → claim_in (made ++ start) object who ≡ None

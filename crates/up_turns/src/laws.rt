@@ -1,7 +1,7 @@
 //! What a worker's turns and a user's sync are, as entries of their object.
 
 ghost use Rattle.up_turns.specs.Laws.{TurnsAreSteps, SyncsAreSteps, NextSuits, NextSyncSuits, AskingStays, EvictsStay, OthersStay, StepFits, FramedStepFits};
-ghost use Rattle.up_turns.specs.Touring.{StepsMakeTours, TurnsMakeTours, SyncsMakeTours};
+ghost use Rattle.up_turns.specs.Touring.{StepsMakeTours, TurnsMakeTours, SyncsMakeTours, WaitsWithoutClaim};
 
 /// What is made for the wishes of a worker's turns, up to their end, is so many steps, from the task that the
 /// worker had.
@@ -38,8 +38,9 @@ pub fn steps_make_tours()
 {}
 
 /// A worker's turns and a sync make tours, where they begin with a task that goes with the claim and each begin is
-/// accepted; so the next turn begins with such a task too.
+/// accepted; so the next turn begins with such a task too. A sync that waits has no claim.
 pub fn turns_and_syncs_make_tours()
     ensures turns { TurnsMakeTours }
     ensures syncs { SyncsMakeTours }
+    ensures waits { WaitsWithoutClaim }
 {}
