@@ -17,9 +17,9 @@ pub fn the_steps_decide_the_entries()
     ensures legal { LinesDecide }
 {}
 
-/// So many steps of a worker from its task, and the steps of a sync up to where it rests, are one list of entries each, and
-/// lead to one task or one rest: once it is given how each call on a disk went, which bytes a supply brings, and each reply,
-/// which legal journals give.
+/// So many steps of a worker from its task, and the steps of a sync up to where it rests, are one list of
+/// entries each, and lead to one task or one rest: once it is given how each call on a disk went, which
+/// bytes a supply brings, and each reply, which legal journals give.
 pub fn turns_and_syncs_are_decided()
     ensures turns { TurnsDecide }
     ensures syncs { SyncsDecide }

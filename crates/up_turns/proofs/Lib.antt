@@ -4,3 +4,4 @@ pub mod Leading
 pub mod Suiting
 pub mod SmallTurn
 mod TourSteps
+mod LineTours

@@ -16,9 +16,10 @@ use Rattle.up_claims.specs.declared.claim.Claim.{Claim}
 use Rattle.up_claims.specs.declared.claim.Claim.TheVariants.{Fetch, Back}
 use Rattle.up_claims.specs.declared.step.SiteReply.{SiteReply}
 use Rattle.up_worker.specs.Courses.{Entered, is_evict}
-use Rattle.up_worker.specs.InStep.{suits}
+use Rattle.up_worker.specs.InStep.{suits, BeginsAccepted}
 use Rattle.up_worker.specs.Program.{step_of}
-use Rattle.up_worker.specs.Turning.{StepDone}
+use Rattle.up_worker.specs.Thread.{exact}
+use Rattle.up_worker.specs.Turning.{StepDone, TurnSteps, SyncSteps, SyncEnd, Parked}
 use Rattle.up_worker.specs.declared.task.Task.{Task}
 use Rattle.up_turns.specs.Laws.{claim_in}
 
@@ -75,3 +76,27 @@ StepsMakeTours = (births : ℕ
     → Birth) (who object : ℕ) (task : Task) (set : List Run) (b : Brought) (before made : List Entered)
     (answer : SiteReply) → suits task (claim_in before object who) ≡ true
     → StepDone births who object (step_of task set) b before made answer → EachOnTour who object before made
+
+-- a worker's turns from a task that goes with its claim, where begins are accepted, make tours, and the task
+-- behind them goes with the claim
+abbrev pub TurnsMakeTours : Type 0
+TurnsMakeTours = (home loans : List Entered → ℕ) (objects : ℕ) (births : ℕ
+    → Birth) (who object count : ℕ) (task : Task) (set : List Run) (start made : List Entered) (next : Task)
+    → TurnSteps (exact home loans objects) births who object task set count start made next
+    → suits task (claim_in start object who) ≡ true → BeginsAccepted made
+    → AreTours who object start made × (suits next (claim_in (made ++ start) object who) ≡ true)
+
+-- so do the steps of a sync
+abbrev pub SyncsMakeTours : Type 0
+SyncsMakeTours = (births : ℕ
+    → Birth) (who object : ℕ) (task : Task) (set : List Run) (start made : List Entered) (end : SyncEnd)
+    → SyncSteps births who object task set start made end → suits task (claim_in start object who) ≡ true
+    → BeginsAccepted made → AreTours who object start made
+
+-- a sync that waits has no claim
+abbrev pub WaitsWithoutClaim : Type 0
+WaitsWithoutClaim = (births : ℕ
+    → Birth) (who object : ℕ) (task : Task) (set left : List Run) (start made : List Entered)
+    → SyncSteps births who object task set start made (Parked left)
+    → suits task (claim_in start object who) ≡ true → BeginsAccepted made
+    → claim_in (made ++ start) object who ≡ None
