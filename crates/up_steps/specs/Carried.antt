@@ -1,5 +1,5 @@
 -- What is done for an actor's wish.
-use Rattle.std.specs.Prelude.{◌≡◌, ℕ, ◌+◌, ◌<◌, Bool, true, false, Option, Some, None, List, [], ◌∷◌, ◌++◌, length, sum, min, slice_get, slice_set, slice_index, IsTrue, Result, IfOk}
+use Rattle.std.specs.Prelude.{◌≡◌, ℕ, ◌+◌, ◌<◌, Bool, true, false, Option, Some, None, List, ◌++◌, length, sum, min, slice_get, slice_set, slice_index, IsTrue, Result, IfOk}
 use Rattle.up_clock.specs.Known.{last_age}
 use Rattle.up_model.specs.Legal.{Life}
 use Rattle.up_model.specs.Reply.{proper}
