@@ -8,7 +8,7 @@ use Rattle.up_model.specs.Legal.{Life}
 use Rattle.up_model.specs.declared.entry.Birth.{Birth}
 use Rattle.up_script.specs.declared.script.ObjectLine.{ObjectLine}
 use Rattle.up_stage.proofs.LineProgress.{take_more}
-use Rattle.up_steps.specs.Handed.{Handed, births_in, empty_hand, is_fair, lives_from, new_life, AllLegal}
+use Rattle.up_steps.specs.Handed.{Handed, births_in, is_fair, lives_from, new_life, AllLegal}
 use Rattle.up_script.specs.Actions.{kind_of}
 use Rattle.up_script.specs.Sound.{is_sound_object, is_fair_object, is_sound, is_sound_line, are_sound_lines}
 use Rattle.up_script.specs.declared.script.ActorLine.{ActorLine}
@@ -22,7 +22,7 @@ use Rattle.up_stage.specs.Scheduled.{Scheduled, unborn_from}
 use Rattle.up_stage.specs.Ready.{ActorKeeps, ActorRests, AtRest}
 use Rattle.up_stage.specs.LeadsTo.{LeadsToRest}
 use Rattle.up_stage.specs.Lines.{Paced, GoesThrough, is_own_line}
-use Rattle.up_stage.specs.Played.{levels_in, births_of, setting_of, new_hands, ArePlayed, is_played_line, is_bound_to, IsPlayable, are_able, IsNew}
+use Rattle.up_stage.specs.Played.{births_of, setting_of, new_hands, ArePlayed, is_played_line, is_bound_to, IsPlayable, are_able, IsNew}
 use Rattle.up_stage.specs.Calls.{suits_births}
 use Rattle.up_stage.proofs.ObjectJournals.{some_same}
 

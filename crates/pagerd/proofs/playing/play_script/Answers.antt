@@ -1,4 +1,4 @@
-use Rattle.std.proofs.Common.{rules, ◌≡◌}
+use Rattle.std.proofs.Common.{◌≡◌, rules}
 use Rattle.up_stage.proofs.FirstAndLast.{born_fair}
 use Rattle.pagerd.proofs.playing.play_script.Goals as goal
 

@@ -1,4 +1,4 @@
-use Rattle.std.proofs.Common.{◌≡◌, length, sym, ap, subst, ◌∙◌, List, refl}
+use Rattle.std.proofs.Common.{length, subst, List}
 use Rattle.std.proofs.lemmas.Result.{IfOk-weaker}
 use Rattle.up_script.specs.declared.script.Line.{Line}
 use Rattle.up_steps.specs.Handed.{Handed}
