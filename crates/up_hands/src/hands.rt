@@ -1,4 +1,4 @@
-ghost use Rattle.std.specs.Prelude.{◌≡◌, ◌+◌, ◌<◌, ◌≤◌, ◌^◌, true, length, map, min, replicate, slice_index, slice_set, IfOk, IfSome, OnOk, OnErr, None};
+ghost use Rattle.std.specs.Prelude.{◌≡◌, ◌+◌, ◌<◌, ◌≤◌, ◌^◌, true, length, map, min, replicate, slice_index, slice_set, IfOk, OnOk, OnErr, None};
 ghost use Rattle.std.specs.List.{list_all};
 ghost use Rattle.up_bank.specs.Standing.{BankId};
 ghost use Rattle.up_bank.specs.declared.kind.FrameKind.TheVariants.{Ordinary as OrdinaryKind, Loaned as LoanedKind};
@@ -6,7 +6,7 @@ ghost use Rattle.up_clock.specs.Known.{last_age};
 ghost use Rattle.up_worker.specs.declared.wish.Heard.TheVariants.{Done as DoneHeard};
 ghost use Rattle.up_object.specs.Parts.{is_loan};
 ghost use Rattle.up_worker.specs.declared.wish.Wish.TheVariants as wishes;
-ghost use Rattle.up_steps.specs.Handed.{empty_hand, births_in, new_life, ends_of, is_fair, AllLegal};
+ghost use Rattle.up_steps.specs.Handed.{empty_hand, new_life, ends_of, is_fair, AllLegal};
 ghost use Rattle.up_steps.specs.Carried.{is_done_here, object_of, hand_for, hand_after, IsProper, AsksForSome, DoesWish, SameShape};
 ghost use Rattle.up_hands.specs.Keeping.{AllKept, Eased, Taken, at_home, counts_of};
 

@@ -6,9 +6,8 @@ ghost use Rattle.up_stage.specs.Scheduled.{SameShape};
 ghost use Rattle.up_stage.specs.Ready.{AtRest, Ready, rank_at, is_waiting, frames_asked};
 ghost use Rattle.up_stage.specs.LeadsTo.{OneMore, FollowsOn, ActsOn, ResumesOn, PassesOn};
 ghost use Rattle.up_stage.specs.Lines.{CatchesUp, DoesLine, GoesThrough};
-ghost use Rattle.up_stage.specs.Played.{IsPlayable, IsNew, are_able, is_able_line};
+ghost use Rattle.up_stage.specs.Played.{are_able, is_able_line};
 
-use crate::actors::actors_of;
 use std::alloc::Global;
 use std::marker::Model;
 use up_model::Reply;
