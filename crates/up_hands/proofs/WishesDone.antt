@@ -23,8 +23,8 @@ use Rattle.up_worker.specs.declared.wish.Heard.{Heard}
 use Rattle.up_worker.specs.declared.wish.Heard.TheVariants as heard
 use Rattle.up_worker.specs.declared.wish.Wish.{Wish}
 use Rattle.up_worker.specs.declared.wish.Wish.TheVariants as wishes
-use Rattle.up_hands.specs.Handed.{InHand, empty_hand, Handed, lives_of, held_in, home, loans}
-use Rattle.up_hands.specs.Carried.{hand_after, kept_after, ages_after, CarriedOut}
+use Rattle.up_steps.specs.Handed.{InHand, empty_hand, Handed, lives_of, held_in, home, loans}
+use Rattle.up_steps.specs.Carried.{hand_after, kept_after, ages_after, CarriedOut}
 use Rattle.up_hands.specs.Entering.{enter, enter_all}
 use Rattle.up_hands.specs.Keeping.{at_home, Taken, Eased}
 use Rattle.up_hands.specs.Machined.{Machined}

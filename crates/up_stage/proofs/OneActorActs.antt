@@ -3,6 +3,7 @@ use Rattle.std.proofs.Common.{◌≡◌, ℕ, ◌<◌, ◌==◌, ◌++◌, ◌�
 use Rattle.std.proofs.lemmas.List.{length-set}
 use Rattle.std.proofs.lemmas.Option.{slice_get_within}
 use Rattle.up_evictor.specs.declared.levels.Levels.{Levels}
+use Rattle.up_model.specs.Answered.{may_park}
 use Rattle.up_model.proofs.Bools.{nat_eq-same, nat_eq_true}
 use Rattle.up_model.specs.Legal.{Life, Legal}
 use Rattle.up_model.specs.Reply.{reply}
@@ -14,12 +15,13 @@ use Rattle.up_model.specs.declared.entry.Call.{Call}
 use Rattle.up_model.specs.declared.entry.Call.TheVariants as calls
 use Rattle.up_model.specs.declared.entry.Reply.{Reply}
 use Rattle.up_model.specs.declared.entry.Reply.TheVariants as replies
-use Rattle.up_hands.specs.Handed.{Handed, lives_of, births_in, AllLegal}
-use Rattle.up_hands.specs.Carried.{CarriedOut}
-use Rattle.up_steps.specs.Asked.{parks as parks_reply, may_park}
+use Rattle.up_steps.specs.Handed.{Handed, lives_of, births_in, AllLegal}
+use Rattle.up_steps.specs.Carried.{CarriedOut}
+use Rattle.up_steps.specs.Asked.{parks as parks_reply}
 use Rattle.up_steps.specs.OneThread.{rests}
 use Rattle.up_worker.specs.Acting.{Acting, under_way, next_wish, next_acting}
-use Rattle.up_worker.specs.Calls.{bringing, borrows}
+use Rattle.up_worker.specs.Calls.{borrows}
+use Rattle.up_model.specs.Bringing.{bringing}
 use Rattle.up_worker.specs.Courses.{Entered, Carries, MakesOne, OwnEvicts, is_waiting, is_retry}
 use Rattle.up_worker.specs.Thread.{of_object, exact, DoneExactly}
 use Rattle.up_worker.specs.Wishes.{attempt}

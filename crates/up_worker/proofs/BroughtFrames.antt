@@ -12,7 +12,8 @@ use Rattle.up_script.specs.declared.script.Action.{Action}
 use Rattle.up_script.specs.declared.script.Action.TheVariants as actions
 use Rattle.up_script.specs.declared.script.Kind.{Kind}
 use Rattle.up_worker.specs.Acting.{Acting, unborn, under_way, hears, first_wish, started, next_wish, next_acting}
-use Rattle.up_worker.specs.Calls.{bringing, borrows, frames_before, is_access}
+use Rattle.up_worker.specs.Calls.{borrows, frames_before, is_access}
+use Rattle.up_model.specs.Bringing.{bringing}
 use Rattle.up_worker.specs.Wishes.{attempt, settles, is_refused, ticket_after, act_on, makes, last_of, last_wish, begins_call, unsettled}
 use Rattle.up_worker.specs.Courses.{is_told, Entered, Event, Begins, Hears, leads, tale, lines, is_evict, IsCourse, Carries, MakesOne, ResizesOne, OwnEvicts, GathersSome, LendsSome, DoneWithout}
 use Rattle.up_worker.specs.Frames.{Judge, JudgedWish, Judged, is_quiet, QuietLines, front, behind, needed, asked_by_last, HasFrames, FramesIn, by_count, BringsGathered}

@@ -10,7 +10,8 @@ use Rattle.up_model.specs.declared.entry.Reply.TheVariants as replies
 use Rattle.up_claims.specs.declared.step.SiteReply.TheVariants as sites
 use Rattle.up_script.specs.declared.script.Kind.{Kind}
 use Rattle.up_worker.specs.Acting.{Acting, unborn, under_way, first_wish, started, next_wish, next_acting}
-use Rattle.up_worker.specs.Calls.{bringing, borrows}
+use Rattle.up_worker.specs.Calls.{borrows}
+use Rattle.up_model.specs.Bringing.{bringing}
 use Rattle.up_worker.specs.Wishes.{attempt, settles, ticket_after, act_on, makes, unsettled}
 use Rattle.up_worker.specs.Courses.{is_evict, Entered, Event, Begins, Hears, leads, tale, lines, IsCourse, Carries, MakesOne, ResizesOne, OwnEvicts, GathersSome, is_told, attempted, attempt_at, aim_in}
 use Rattle.up_worker.specs.Rules.{pending, HeldTicket, held_after, held, Keeps, Rules, KeepsRules, LeavesNothing}

@@ -1,0 +1,4 @@
+pub mod Origins
+pub mod Others
+pub mod Acts
+pub mod Laws
