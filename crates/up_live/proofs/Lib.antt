@@ -4,3 +4,4 @@ pub mod Stepping
 pub mod SyncLaws
 pub mod Toured
 pub mod Stilling
+pub mod SyncSteps

@@ -65,10 +65,10 @@ use Rattle.up_live.proofs.SyncLaws.{syncing_stored, syncing_ended, syncing_clear
 use Rattle.up_live.proofs.Toured.{grown_then, grown_none, grown_one, grown_later}
 
 -- the way to where a sync stands before a step
-record Behind (who first low : ℕ) (start old : Standing) (since : ℕ) (claim : Option Claim) : Type 0 where
-  grown : Grown who first low start old (going None) (going claim)
-  later : Begins start.seen old.seen
-  late : length start.seen ≤ since
+pub record Behind (who first low : ℕ) (start old : Standing) (since : ℕ) (claim : Option Claim) : Type 0 where
+  pub grown : Grown who first low start old (going None) (going claim)
+  pub later : Begins start.seen old.seen
+  pub late : length start.seen ≤ since
 
 later_by : {tells : List Entry → List Entry → Type 0} (birth : Birth) (who epoch : ℕ) (old new : Standing) (back : List
     Frame) → Made birth old new who epoch [] back tells → Begins old.seen new.seen
@@ -88,7 +88,7 @@ one_more before made new e is one =
     ap reverse (is ∙ ap (λ (l : List Entry). before ++ l) one) ∙ reverse-append before (e ∷ [])
 
 -- the journal before the step is legal
-legal_by : (birth : Birth) (who epoch : ℕ) (before made : List Entry) (new : Standing) → new.seen ≡ before ++ made →
+pub legal_by : (birth : Birth) (who epoch : ℕ) (before made : List Entry) (new : Standing) → new.seen ≡ before ++ made →
     IsStepBy who epoch made → Legal birth (journal_of new) → Legal birth (reverse before)
 legal_by birth who epoch before [] new is by legal = subst (Legal birth) (none_more before [] new is refl) legal
 legal_by birth who epoch before (e ∷ []) new is by legal =
@@ -97,7 +97,7 @@ legal_by birth who epoch before (e ∷ []) new is by legal =
 legal_by birth who epoch before (e ∷ f ∷ rest) new is by legal = absurd by
 
 -- after a step without an entry
-rests_so : {tells : List Entry → List Entry → Type 0} (birth : Birth) (who epoch first low high since : ℕ) (start old
+pub rests_so : {tells : List Entry → List Entry → Type 0} (birth : Birth) (who epoch first low high since : ℕ) (start old
     new : Standing) (back : List Frame) (set : List Run) (claim : Option Claim) (next : SyncTask) → Behind who first
     low start old since claim → low ≤ high → (m : Made birth old new who epoch [] back tells) → m.made ≡ [] → IsOnTask
     birth (reverse m.before) who since set claim next → OnItsWay birth who first high start new set (GoesOn next)
@@ -135,7 +135,7 @@ one_grown birth who epoch first low high since start old new back claim after' e
     (grown_one who low epoch high (length m.before) e old new (going claim) refl may own at early late own_is))
 
 -- it goes on after a step with one entry
-goes_so : {tells : List Entry → List Entry → Type 0} (birth : Birth) (who epoch first low high since : ℕ) (start old
+pub goes_so : {tells : List Entry → List Entry → Type 0} (birth : Birth) (who epoch first low high since : ℕ) (start old
     new : Standing) (back : List Frame) (set : List Run) (claim after' : Option Claim) (next : SyncTask) (e : Entry) →
     Behind who first low start old since claim → low ≤ epoch → epoch ≤ high → (m : Made birth old new who epoch [] back
     tells) → m.made ≡ e ∷ [] → MayMake claim e.call e.reply → e.who ≡ who → e.epoch ≡ epoch → next_claim e.call e.reply
@@ -154,7 +154,7 @@ goes_so birth who epoch first low high since start old new back set claim after'
     }
 
 -- it is over after a step with one entry
-over_so : {tells : List Entry → List Entry → Type 0} (birth : Birth) (who epoch first low high since : ℕ) (start old
+pub over_so : {tells : List Entry → List Entry → Type 0} (birth : Birth) (who epoch first low high since : ℕ) (start old
     new : Standing) (back : List Frame) (set : List Run) (claim : Option Claim) (end : SyncEnd) (e : Entry) → Behind
     who first low start old since claim → low ≤ epoch → epoch ≤ high → (m : Made birth old new who epoch [] back tells)
     → m.made ≡ e ∷ [] → MayMake claim e.call e.reply → e.who ≡ who → e.epoch ≡ epoch → next_claim e.call e.reply claim ≡

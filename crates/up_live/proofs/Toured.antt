@@ -26,7 +26,7 @@ pub grown_then : (who low mid high : ℕ) (old between new : Standing) (from to 
     between from to → Grown who mid high between new to over → Grown who low high old new from over
 grown_then who low mid high old between new from to over a b = record {
   more = a.more ++ b.more;
-  is = b.is ∙ ap (λ (l : List Placed). l ++ b.more) a.is ∙ sym (append_assoc old.own a.more b.more);
+  is = b.is ∙ ap (λ (l : List Placed). l ++ b.more) a.is ∙ append_assoc old.own a.more b.more;
   leads = leads_append from to over a.more b.more a.leads b.leads;
   timed = timed_append who low mid high a.more b.more a.timed b.timed;
 }

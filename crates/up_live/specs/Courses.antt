@@ -1,5 +1,5 @@
 -- The steps of a sync, and how far they bring it.
-use Rattle.std.specs.Prelude.{◌≡◌, ℕ, ◌≤◌, Bool, true, false, cond, Option, Some, None, List, [], length}
+use Rattle.std.specs.Prelude.{◌≡◌, ℕ, ◌<◌, ◌≤◌, Bool, true, false, cond, Option, Some, None, List, [], length}
 use Rattle.up_bank.specs.Standing.{Held as Frame}
 use Rattle.up_span.specs.declared.run.Run.{Run}
 use Rattle.up_model.specs.declared.entry.Birth.{Birth}
@@ -8,6 +8,7 @@ use Rattle.up_model.specs.declared.entry.Brought.TheVariants.{Nothing}
 use Rattle.up_claims.specs.Sets.{without}
 use Rattle.up_claims.specs.Sited.{fits}
 use Rattle.up_claims.specs.declared.claim.Claim.{Claim}
+use Rattle.up_claims.specs.declared.claim.Claim.TheVariants.{Back}
 use Rattle.up_claims.specs.declared.step.SiteReply.{SiteReply}
 use Rattle.up_claims.specs.declared.step.SiteReply.TheVariants as sites
 use Rattle.up_claims.specs.declared.step.SiteStep.{SiteStep}
@@ -65,11 +66,17 @@ abbrev pub IsClear : SyncTask → Birth → List Entry → ℕ → Type 0
 IsClear tasks.Flush birth h n = AllReached birth h n
 IsClear _ birth h n = Unit {0}
 
+-- a writeback is of some pages
+abbrev pub HasPages : Option Claim → Type 0
+HasPages (Some (Back range number copied stored)) = 0 < range.count
+HasPages _ = Unit {0}
+
 -- a task goes with its actor's claim
 pub record IsOnTask (birth : Birth) (h : List Entry) (who n : ℕ) (set : List Run) (claim : Option Claim)
     (task : SyncTask) : Type 0 where
   pub syncing : IsSyncing birth h who n set claim
   pub may : fits (step_of task set) claim Nothing ≡ true
+  pub pages : HasPages claim
   pub clear : IsClear task birth h n
 
 -- a sync that is over: where it ended well, each page is durable
