@@ -1,8 +1,9 @@
 -- What each step of a sync makes of how far it has come.
 use Rattle.std.proofs.Common.{◌≡◌, ℕ, ◌+◌, ◌<◌, ◌≤◌, ◌==◌, ◌&&◌, ◌||◌, not, Bool, true, false, cond, Option, Some, None, List}
 use Rattle.std.proofs.Common.{[], ◌∷◌, ◌++◌, length, suc, zero, nat_lt, refl, sym, ap, ◌∙◌, subst, arith, append-nil, inl, inr}
-use Rattle.std.specs.Prelude.{reverse, option_map, is_some}
-use Rattle.std.proofs.lemmas.List.{reverse-append, append_assoc}
+use Rattle.std.specs.Prelude.{reverse, option_map, is_some, Result, Ok, Err, OnErr}
+use Rattle.std.proofs.lemmas.List.{reverse-append, append_assoc, length-reverse}
+use Rattle.std.proofs.Math.Nat.{le_trans}
 use Rattle.std.proofs.lemmas.Bool.{false≢true}
 use Rattle.std.proofs.lemmas.Bool.Decides.{nat_tests}
 use Rattle.up_num.specs.Span.{Span, covers}
@@ -44,7 +45,7 @@ use Rattle.up_coherence.specs.Durable.{durable, Throughout}
 use Rattle.up_coherence.proofs.SyncPromise.{syncing_flushed}
 use Rattle.up_turn.specs.Placing.{placed, Begins}
 use Rattle.up_turn.specs.Standing.{Standing}
-use Rattle.up_turn.proofs.Placings.{begins_same, begins_then}
+use Rattle.up_turn.proofs.Placings.{begins_same, begins_long}
 use Rattle.up_site.specs.Due.{Does, MakesEntry, went_well}
 use Rattle.up_site.proofs.Choices.{free_unclean, from_free}
 use Rattle.up_site.proofs.Looked.{run_first, run_free}
@@ -52,14 +53,17 @@ use Rattle.up_site.proofs.Reached.{begin_accepts, begin_good, unclean_within}
 use Rattle.up_live.specs.Others.{OthersSince}
 use Rattle.up_live.specs.Acts.{journal_of, IsStepBy, Made, StepDoes, Looked}
 use Rattle.up_live.specs.Touring.{Reach, going, MayMake, next_reach, over_by, Grown, Partly, Tip}
-use Rattle.up_live.specs.Syncs.{is_well, IsSyncing, AllReached}
-use Rattle.up_live.specs.Courses.{step_of, next_after, set_after, StepTold, IsClear, HasPages, IsOnTask, OnItsWay}
+use Rattle.up_live.specs.Syncs.{is_well, Promises, IsSyncing, AllReached}
+use Rattle.up_live.specs.Courses.{step_of, next_after, set_after, StepTold, IsClear, HasPages, IsOnTask, EndsSo, over_at}
+use Rattle.up_live.specs.Courses.{OnItsWay, IsAtEnd}
 use Rattle.up_live.specs.declared.picked.SyncEnd.{SyncEnd}
 use Rattle.up_live.specs.declared.picked.SyncEnd.TheVariants.{Synced, Failed}
 use Rattle.up_live.specs.declared.picked.SyncTask.{SyncTask}
 use Rattle.up_live.specs.declared.picked.SyncTask.TheVariants as tasks
 use Rattle.up_live.specs.declared.picked.SyncNext.{SyncNext}
 use Rattle.up_live.specs.declared.picked.SyncNext.TheVariants.{GoesOn, IsOver}
+use Rattle.up_live.proofs.Going.{claim_on}
+use Rattle.up_live.proofs.Toured.{grown_then, grown_none}
 use Rattle.up_live.proofs.SyncLaws.{syncing_since, reached_since, syncing_first, syncing_begun, syncing_copied}
 use Rattle.up_live.proofs.SyncLaws.{syncing_stored, syncing_ended, syncing_cleared}
 use Rattle.up_live.proofs.Stilling.{Behind, rests_so, goes_so, over_so, legal_by}
@@ -480,3 +484,102 @@ sync_goes birth who first low high start old new set answer task t way =
       clear = clear_since birth (journal_of old) (reverse m.before) who way.since task m.others on.syncing.sync.began
           on.clear;
     })
+
+-- the same, where step, set and what comes next are known by other names
+pub way_on : (birth : Birth) (who first low high : ℕ) (start old new : Standing) (set less : List Run) (answer :
+    SiteReply) (task : SyncTask) (next : SyncNext) (step : SiteStep) → step ≡ step_of task set → less ≡ set_after set
+    answer → next ≡ next_after answer → StepTold birth old new who low high step answer → OnItsWay birth who first low
+    start old set (GoesOn task) → OnItsWay birth who first high start new less next
+way_on birth who first low high start old new set less answer task next step step_is less_is next_is t way =
+    subst (λ (n : SyncNext). OnItsWay birth who first high start new less n) (sym next_is)
+    (subst (λ (l : List Run). OnItsWay birth who first high start new l (next_after answer)) (sym less_is)
+    (sync_goes birth who first low high start old new set answer task (subst (λ (s : SiteStep). StepTold birth old new
+    who low high s answer) step_is t) way))
+
+-- a task may be made by the claim that its actor has
+pub way_fits : (birth : Birth) (who first low : ℕ) (start now : Standing) (set : List Run) (task : SyncTask) → OnItsWay
+    birth who first low start now set (GoesOn task) → fits (step_of task set) (claim_of (journal_of now) who) Nothing ≡
+    true
+way_fits birth who first low start now set task way =
+    ap (λ (c : Option Claim). fits (step_of task set) c Nothing) way.stands.syncing.claim_is ∙ way.stands.may
+
+-- the first step: the pages that are unclean
+abbrev found_in : SiteReply → List Run
+found_in (sites.Surveyed set) = set
+found_in _ = []
+
+pub way_begins : (birth : Birth) (who low high : ℕ) (old new : Standing) (set : List Run) (answer : SiteReply) → claim_of
+    (journal_of old) who ≡ None → answer ≡ sites.Surveyed set → StepTold birth old new who low high steps.Survey answer
+    → OnItsWay birth who low high old new set (GoesOn tasks.Pick)
+way_begins birth who low high old new set answer free said t =
+    let m = t.made in
+    let h : List Entry = reverse m.before in
+    let found : set ≡ runs (unclean birth h) 0 0 (size birth h) = ap found_in (sym said ∙ m.does.does.0) in
+    let legal : Legal birth h = legal_by birth who t.epoch m.before m.made new m.is m.by m.legal in
+    let long : length old.seen ≤ length m.before = begins_long old.seen m.before m.later in
+    let same : length h ≡ length m.before = length-reverse m.before in
+    let late : length old.seen ≤ length h = omega arith in
+    let w : Behind who low low old old (length h) None = record {
+      grown = grown_none who low low old old (going None) (omega arith) refl;
+      later = begins_same old.seen;
+      late = late;
+    } in
+    rests_so birth who t.epoch low low high (length h) old old new t.back set None tasks.Pick w (le_trans t.early t.late)
+    m m.does.does.2 (record {
+      syncing = subst (λ (l : List Run). IsSyncing birth h who (length h) l None) (sym found) (syncing_first birth h who
+          legal (claim_on who (journal_of old) h m.others ∙ free));
+      may = refl;
+      pages = tt;
+      clear = tt;
+    })
+
+-- want of memory before a step, and after one
+pub partly_looked : (birth : Birth) (who first low high : ℕ) (start old new : Standing) (set : List Run) (task : SyncTask)
+    → OnItsWay birth who first low start old set (GoesOn task) → low ≤ high → Looked birth who old new → Partly who
+    first high start new (going None)
+partly_looked birth who first low high start old new set task way later l = record {
+  claim = way.claim;
+  grown = grown_then who first low high start old new (going None) (going way.claim) (going way.claim) way.grown
+      (grown_none who low high old new (going way.claim) later l.own);
+}
+
+pub partly_stepped : (birth : Birth) (who first low high : ℕ) (start old new : Standing) (set : List Run) (answer :
+    SiteReply) (task : SyncTask) (step : SiteStep) → step ≡ step_of task set → over_at (next_after answer) ≡ None →
+    StepTold birth old new who low high step answer → OnItsWay birth who first low start old set (GoesOn task) → Partly
+    who first high start new (going None)
+partly_stepped birth who first low high start old new set answer task step step_is on t way =
+    let next : OnItsWay birth who first high start new (set_after set answer) (next_after answer) = sync_goes birth who
+    first low high start old new set answer task (subst (λ (s : SiteStep). StepTold birth old new who low high s answer)
+    step_is t) way in record {
+      claim = next.claim;
+      grown = subst (λ (o : Option Bool). Grown who first high start new (going None) (record {
+        claim = next.claim;
+        over = o;
+      })) on next.grown;
+    }
+
+-- the end
+promised : (birth : Birth) (start now : Standing) (n : ℕ) (claim : Option Claim) (end : SyncEnd) → length start.seen ≤ n →
+    EndsSo birth start now n claim (is_well end) → Promises end birth (journal_of now) (length start.seen)
+promised birth start now n claim Synced late ends = record {
+  since = n;
+  late = late;
+  within = ends.within;
+  kept = ends.kept refl;
+}
+promised birth start now n claim Failed late ends = tt
+
+pub at_end : (birth : Birth) (who first high : ℕ) (start now : Standing) (set : List Run) (end : SyncEnd) → OnItsWay birth
+    who first high start now set (IsOver end) → IsAtEnd birth who first high start now end
+at_end birth who first high start now set end way = record {
+  grown = subst (λ (c : Option Claim). Grown who first high start now (going None) (record {
+    claim = c;
+    over = Some (is_well end);
+  })) way.stands.free way.grown;
+  tip = way.stands.tip;
+  promises = promised birth start now way.since way.claim end way.late way.stands;
+}
+
+pub on_err : {A E : Type 0} (P : Type 0) (result : Result A E) → P → OnErr result P
+on_err P (Ok a) p = tt
+on_err P (Err e) p = p

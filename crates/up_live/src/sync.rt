@@ -11,7 +11,7 @@ ghost use Rattle.up_site.specs.Steps.{is_bare};
 ghost use Rattle.up_live.specs.Acts.{MayAct, journal_of, Looked};
 ghost use Rattle.up_live.specs.Touring.{going, ended, Grown, Partly, Tip};
 ghost use Rattle.up_live.specs.Syncs.{is_well, Promises};
-ghost use Rattle.up_live.specs.Courses.{step_of, set_after, StepTold, OnItsWay, IsAtEnd};
+ghost use Rattle.up_live.specs.Courses.{step_of, set_after, next_after, over_at, StepTold, OnItsWay, IsAtEnd};
 ghost use Rattle.up_live.specs.declared.picked.SyncTask.TheVariants as tasks;
 ghost use Rattle.up_live.specs.declared.picked.SyncNext.TheVariants as nexts;
 
@@ -31,7 +31,8 @@ use up_turn::Pass;
 
 // Takes the pages of a writeback that has begun out of a set.
 fn take_begun(set: &mut Chosen, answer: &SiteReply) -> Result<(), Memory>
-    ensures { OnOk result (set.new ≡ set_after set.old answer.now) }
+    ensures ok { OnOk result (set.new ≡ set_after set.old answer.now) }
+    ensures err { OnErr result (over_at (next_after answer.now) ≡ None) }
 {
     if let SiteReply::Claimed(range) = answer {
         set.remove(*range)?;
