@@ -14,11 +14,10 @@ use Rattle.up_object.specs.Change.{AllAre, AllOwn}
 use Rattle.up_object.specs.Whole.{Whole}
 use Rattle.up_object.specs.OneCall.{brought_of, frames_of}
 use Rattle.up_core.specs.declared.requests.Request.{Request}
-use Rattle.up_core.specs.Groups.{bringing}
+use Rattle.up_model.specs.Bringing.{bringing, brought_by}
 use Rattle.up_core.specs.Requests.{Keeps, AllKeep, AllBackOwn, Agrees, kind_taken, after_one, after_all}
 use Rattle.up_core.proofs.Listed.{banks_stay, backs_parts}
 use Rattle.up_check.specs.Handed.{HandedIn}
-use Rattle.up_check.specs.Replaying.{brought_by}
 use Rattle.judge_journals.specs.Homes.{AllHome}
 
 -- a call that is given what it brought is that call

@@ -10,7 +10,7 @@ ghost use Rattle.judge_journals.specs.Homes.{AllHome};
 
 use std::alloc::Global;
 use up_bank::FrameKind;
-use up_check::{Pool, Sizes, brought_by, call_with, is_fair, kind_of, may_call};
+use up_check::{ReplayBanks, Sizes, is_fair, kind_of, may_call};
 use up_core::{Owed, Replies, Request, Requests, run_list};
 use up_journal::is_proper;
 use up_model::{Birth, Brought, Call, Entry};
@@ -31,11 +31,26 @@ pub(crate) fn count_again(alloc: Global, journal: &Named) -> Result<usize, Memor
         ordinary: frames_for(entries, FrameKind::Ordinary),
         loaned: frames_for(entries, FrameKind::Loaned),
     };
-    let mut pool = Pool::new(alloc, sizes)?;
-    let mut object = pool.birth(alloc, journal.birth)?;
-    let told = run_entries(alloc, &mut object, &mut pool, entries);
+    let mut banks = ReplayBanks::new(alloc, sizes)?;
+    let told = count_over(alloc, &mut banks, journal.birth, entries);
+    banks.end();
+    told
+}
+
+/// The same, with frames of these banks.
+fn count_over(
+    alloc: Global,
+    banks: &mut ReplayBanks,
+    birth: Birth,
+    entries: &[Entry],
+) -> Result<usize, Memory>
+    requires users { (0 < birth.users) × (birth.users ≤ 64) }
+    requires pagers { (0 < birth.pagers) × (birth.pagers ≤ 64) }
+{
+    let mut object = banks.birth(alloc, birth)?;
+    let told = run_entries(alloc, &mut object, banks, entries);
     let (_, held) = object.end();
-    pool.bring_home(held);
+    banks.bring_home(held);
     told
 }
 
@@ -46,7 +61,7 @@ fn frames_for(entries: &[Entry], kind: FrameKind) -> u32
     let mut frames = 0u32;
     for entry in entries {
         if kind_of(&entry.call) == kind
-            && let Brought::Frames(count) = brought_by(&entry.call)
+            && let Brought::Frames(count) = entry.call.brought()
         {
             frames = frames.saturating_add(count);
         }
@@ -71,17 +86,17 @@ fn within(frames: u32) -> u32
 fn run_entries(
     alloc: Global,
     object: &mut Object,
-    pool: &mut Pool,
+    banks: &mut ReplayBanks,
     entries: &[Entry],
 ) -> Result<usize, Memory>
-    requires { object.old.banks ≡ pool.old }
-    ensures { (object.new.banks ≡ pool.new) × (pool.new ≡ pool.old) }
+    requires { object.old.banks ≡ banks.old }
+    ensures { (object.new.banks ≡ banks.new) × (banks.new ≡ banks.old) }
 {
     let mut same = 0usize;
     let mut first = 0;
     while first < entries.len() {
         let end = list_end(entries, first);
-        let found = run_some(alloc, object, pool, &entries[first..end])?;
+        let found = run_some(alloc, object, banks, &entries[first..end])?;
         same = same.saturating_add(found);
         first = end;
     }
@@ -110,18 +125,18 @@ fn is_retry(call: &Call) -> bool {
 fn run_some(
     alloc: Global,
     object: &mut Object,
-    pool: &mut Pool,
+    banks: &mut ReplayBanks,
     entries: &[Entry],
 ) -> Result<usize, Memory>
-    requires { object.old.banks ≡ pool.old }
-    ensures { (object.new.banks ≡ pool.new) × (pool.new ≡ pool.old) }
+    requires { object.old.banks ≡ banks.old }
+    ensures { (object.new.banks ≡ banks.new) × (banks.new ≡ banks.old) }
 {
-    let list = list_of(alloc, object, pool, entries)?;
+    let list = list_of(alloc, object, banks, entries)?;
     match run_list(object, alloc, list) {
-        Ok(replies) => Ok(count_same(pool, replies, entries)),
+        Ok(replies) => Ok(count_same(banks, replies, entries)),
         Err((memory, left, back)) => {
-            pool.bring_home(back);
-            bring_all_home(alloc, pool, left);
+            banks.bring_home(back);
+            bring_all_home(alloc, banks, left);
             Err(memory)
         }
     }
@@ -131,21 +146,21 @@ fn run_some(
 fn list_of(
     alloc: Global,
     object: &Object,
-    pool: &mut Pool,
+    banks: &mut ReplayBanks,
     entries: &[Entry],
 ) -> Result<Requests, Memory>
-    requires { object.now.banks ≡ pool.old }
-    ensures same { pool.new ≡ pool.old }
+    requires { object.now.banks ≡ banks.old }
+    ensures same { banks.new ≡ banks.old }
     ensures keeps { IfOk result (AllKeep object.now) }
-    ensures home { IfOk result (AllHome pool.old) }
+    ensures home { IfOk result (AllHome banks.old) }
 {
     let mut list = Owed::new(alloc);
     for entry in entries {
-        match add(alloc, object, pool, entry, &mut list) {
+        match add(alloc, object, banks, entry, &mut list) {
             Ok(true) => {}
             Ok(false) => return Ok(list),
             Err(memory) => {
-                bring_all_home(alloc, pool, list);
+                bring_all_home(alloc, banks, list);
                 return Err(memory);
             }
         }
@@ -158,23 +173,23 @@ fn list_of(
 fn add(
     alloc: Global,
     object: &Object,
-    pool: &mut Pool,
+    banks: &mut ReplayBanks,
     entry: &Entry,
     list: &mut Requests,
 ) -> Result<bool, Memory>
-    requires banks { object.now.banks ≡ pool.old }
+    requires banks { object.now.banks ≡ banks.old }
     requires keeps { AllKeep object.now list.old }
-    requires home { AllHome pool.old list.old }
-    ensures same { pool.new ≡ pool.old }
+    requires home { AllHome banks.old list.old }
+    ensures same { banks.new ≡ banks.old }
     ensures keeps { AllKeep object.now list.new }
-    ensures home { AllHome pool.old list.new }
+    ensures home { AllHome banks.old list.new }
 {
-    let brought = brought_by(&entry.call);
+    let brought = entry.call.brought();
     if !fits(object, list, entry.who, &entry.call) || !counts(brought) {
         return Ok(false);
     }
-    let call = call_with(alloc, &entry.call, brought)?;
-    let Some(frames) = pool.hand(alloc, kind_of(&call), brought)? else {
+    let call = entry.call.copy_bringing(alloc, brought)?;
+    let Some(frames) = banks.hand(alloc, kind_of(&call), brought)? else {
         return Ok(false);
     };
     let request = Request {
@@ -186,7 +201,7 @@ fn add(
     match list.push(request) {
         Ok(()) => Ok(true),
         Err((memory, request)) => {
-            bring_one_home(alloc, pool, request);
+            bring_one_home(alloc, banks, request);
             Err(memory)
         }
     }
@@ -225,15 +240,15 @@ fn counts(brought: Brought) -> bool
 
 /// Counts the replies that are those of the entries. The frames that came with them go home.
 #[tactic(auto, using(crate::proofs::Requests::back_own, crate::proofs::Requests::back_rest))]
-fn count_same(pool: &mut Pool, replies: Replies, entries: &[Entry]) -> usize
-    requires { AllBackOwn pool.old replies }
-    ensures { pool.new ≡ pool.old }
+fn count_same(banks: &mut ReplayBanks, replies: Replies, entries: &[Entry]) -> usize
+    requires { AllBackOwn banks.old replies }
+    ensures { banks.new ≡ banks.old }
 {
     let mut same = 0usize;
     let mut rest = replies.into_vec();
     while let Some(stepped) = rest.pop() {
         let Stepped { reply, back } = stepped;
-        pool.bring_home(back);
+        banks.bring_home(back);
         if let Some(entry) = entries.get(rest.len())
             && entry.reply.same(&reply)
         {
@@ -246,20 +261,20 @@ fn count_same(pool: &mut Pool, replies: Replies, entries: &[Entry]) -> usize
 
 /// Brings the frames of requests home.
 #[tactic(auto, using(crate::proofs::Requests::home_own, crate::proofs::Requests::home_rest))]
-fn bring_all_home(alloc: Global, pool: &mut Pool, requests: Requests)
-    requires { AllHome pool.old requests }
-    ensures { pool.new ≡ pool.old }
+fn bring_all_home(alloc: Global, banks: &mut ReplayBanks, requests: Requests)
+    requires { AllHome banks.old requests }
+    ensures { banks.new ≡ banks.old }
 {
     let mut rest = requests.into_vec();
     while let Some(request) = rest.pop() {
-        bring_one_home(alloc, pool, request);
+        bring_one_home(alloc, banks, request);
     }
     rest.destroy_empty();
 }
 
-fn bring_one_home(alloc: Global, pool: &mut Pool, request: Request)
-    requires { AllOwn pool.old (frames_of request.frames) }
-    ensures { pool.new ≡ pool.old }
+fn bring_one_home(alloc: Global, banks: &mut ReplayBanks, request: Request)
+    requires { AllOwn banks.old (frames_of request.frames) }
+    ensures { banks.new ≡ banks.old }
 {
     let Request {
         who: _,
@@ -267,5 +282,5 @@ fn bring_one_home(alloc: Global, pool: &mut Pool, request: Request)
         call: _,
         frames,
     } = request;
-    pool.bring_home(frames.into_frames(alloc));
+    banks.bring_home(frames.into_frames(alloc));
 }

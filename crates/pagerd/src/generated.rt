@@ -1,10 +1,11 @@
 ghost use Rattle.std.specs.Prelude.{◌≡◌, ◌≤◌, map, string_bytes, IfOk, IfSome, IsNone};
 ghost use Rattle.pagerd.specs.Generated.{IsGen, IsNoGen, Summarizes, summary_text};
 
+use crate::playing::play_script;
 use itoa::Buffer;
 use std::alloc::Global;
 use up_num::Memory;
-use up_stage::{Summary, generate, play, sum_up};
+use up_stage::{Summary, generate, sum_up};
 use up_words::parse_number;
 
 /// The greatest count of rounds.
@@ -45,7 +46,7 @@ pub fn told_of(alloc: Global, asked: Seed) -> Result<Vec<u8>, Memory>
     ensures { IfOk result (λ text. Summarizes asked.seed asked.rounds text.items) }
 {
     let script = generate(alloc, asked.seed, asked.rounds)?;
-    let mut ended = play(alloc, &script)?;
+    let mut ended = play_script(alloc, &script)?;
     match ended.pop() {
         Some(entries) => summary_line(alloc, asked, &sum_up(entries.as_slice())),
         None => unreachable!(),

@@ -5,11 +5,11 @@ ghost use Rattle.up_text.specs.Versions.{is_version};
 ghost use Rattle.pagerd.specs.Built.{unbuilt_line};
 ghost use Rattle.pagerd.specs.Journals.{MakesJournals, named_from, name_one};
 
+use crate::playing::play_script;
 use std::alloc::Global;
 use up_model::Entries;
 use up_num::Memory;
 use up_script::{ObjectLine, Script};
-use up_stage::play;
 use up_text::{Journals, Named};
 
 /// Does a script's lines in file order, each as far as its actor comes, and gives the journals of its objects in their
@@ -20,7 +20,7 @@ pub fn journals_of(alloc: Global, script: &Script) -> Result<Journals, Memory>
     requires built { unbuilt_line script.now ≡ None }
     ensures { IfOk result (λ journals. MakesJournals script.now journals) }
 {
-    let ended = play(alloc, script)?;
+    let ended = play_script(alloc, script)?;
     name_all(alloc, script.version, script.objects.as_slice(), ended)
 }
 

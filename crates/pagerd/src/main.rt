@@ -15,6 +15,7 @@ mod generated;
 mod journals;
 mod keeping;
 mod output;
+mod playing;
 mod process;
 mod stepping;
 #[cfg(test)]

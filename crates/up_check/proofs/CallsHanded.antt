@@ -1,10 +1,7 @@
 -- What a call that is made again is handed agrees with what it says.
-use Rattle.std.proofs.Common.{◌≡◌, IsTrue, ℕ, ◌==◌, true, false, cond, List, [], length, refl, sym, subst, ap, ◌∙◌, arith}
-use Rattle.std.specs.Prelude.{nat_lt}
-use Rattle.std.proofs.lemmas.Bool.Decides.{nat_tests}
+use Rattle.std.proofs.Common.{◌≡◌, IsTrue, ℕ, ◌==◌, Bool, true, false, cond, nat_le, List, [], length, IfSome, refl, sym, subst, ap, ◌∙◌}
 use Rattle.up_bank.specs.declared.kind.FrameKind.{FrameKind}
-use Rattle.up_bank.specs.Standing.{BankId}
-use Rattle.up_pages.specs.Frames.{Stock}
+use Rattle.up_bank.specs.declared.kind.FrameKind.TheVariants.{Ordinary, Loaned}
 use Rattle.up_model.specs.Reply.{counts_frames, proper}
 use Rattle.up_model.specs.declared.entry.Birth.{Birth}
 use Rattle.up_model.specs.declared.entry.Brought.{Brought}
@@ -13,13 +10,14 @@ use Rattle.up_model.specs.declared.entry.Call.{Call}
 use Rattle.up_model.specs.declared.entry.Call.TheVariants as calls
 use Rattle.up_model.specs.declared.entry.Entry.{Entry}
 use Rattle.up_object.specs.Parts.{BankPair, bank_of}
-use Rattle.up_object.specs.Change.{AllAre, AllOwn}
+use Rattle.up_object.specs.Change.{AllAre}
 use Rattle.up_object.specs.OneCall.{brought_of, frames_of}
+use Rattle.up_object.proofs.CallEnds.{are_own}
 use Rattle.up_object.specs.declared.step.FramesIn.{FramesIn}
 use Rattle.up_object.specs.declared.step.FramesIn.TheVariants.{NoneYet, Given, Scanned as ScanIn}
-use Rattle.up_core.specs.Groups.{bringing}
+use Rattle.up_model.specs.Bringing.{bringing}
 use Rattle.up_core.specs.Requests.{kind_taken, Agrees}
-use Rattle.up_check.specs.Handed.{HandedIn}
+use Rattle.up_check.specs.Handed.{HandedIn, given_only}
 use Rattle.up_check.specs.Replaying.{brought_again}
 use Rattle.up_check.proofs.Replayed.{counts_again, proper_again}
 
@@ -53,20 +51,33 @@ pub counts_in : (birth : Birth) (h : List Entry) (who : ℕ) (c : Call) (brought
 counts_in birth h who c brought may is = ap counts_frames is ∙ counts_again birth h who c (sym may)
 
 -- what the banks hand out
-some_count : (n m : ℕ) → nat_lt 0 n ≡ true → m ≡ n → (m == 0) ≡ false
-some_count n m some is = grind (arith, nat_tests)
+not_scan : (b : Bool) (n : ℕ) → cond b Nothing (Frames n) ≡ Scanned → ⊥
+not_scan true n never = cc
+not_scan false n never = cc
 
-pub handed_given : (banks : BankPair) (kind : FrameKind) (n : ℕ) (frames : Stock) → counts_frames (Frames n) ≡ true → length frames.items ≡ n → AllAre (bank_of banks kind) frames.items → AllOwn banks frames.items →
-    HandedIn banks kind (Frames n) (Given frames)
-handed_given banks kind n frames counts is own back = record {
-  told = ap Frames (sym is) ∙ (λ i. cond (sym (some_count n (length frames.items) counts is) i) Nothing (Frames (length frames.items)));
+enough_given : (b : Bool) (n : ℕ) (told : Brought) → cond b (Frames n) Scanned ≡ told → (told ≡ Scanned → ⊥) → Frames n ≡ told
+enough_given true n told is other = is
+enough_given false n told is other = absurd (other (sym is))
+
+pub handed_frames : (banks : BankPair) (kind : FrameKind) (n home : ℕ) (found : FramesIn) → brought_of found ≡ cond (nat_le n home) (Frames n) Scanned → AllAre (bank_of banks kind) (frames_of found) →
+    banks.ordinary.kind ≡ Ordinary → banks.loaned.kind ≡ Loaned → IfSome (given_only found) (HandedIn banks kind (Frames n))
+handed_frames banks kind n home (Given frames) told own ordinary loaned = record {
+  told = enough_given (nat_le n home) n (brought_of (Given frames)) (sym told) (not_scan (length frames.items == 0) (length frames.items));
   none = λ never. absurd cc;
   own = own;
-  back = back;
+  back = are_own banks kind frames.items (ordinary, loaned) own;
 }
+handed_frames banks kind n home NoneYet told own ordinary loaned = tt
+handed_frames banks kind n home (ScanIn scan) told own ordinary loaned = tt
 
 pub handed_none : (banks : BankPair) (kind : FrameKind) → HandedIn banks kind Nothing NoneYet
 handed_none banks kind = record { told = refl; none = λ is. refl; own = tt; back = tt }
 
-pub handed_scan : (banks : BankPair) (kind : FrameKind) (scan : BankId) → HandedIn banks kind Scanned (ScanIn scan)
-handed_scan banks kind scan = record { told = refl; none = λ is. refl; own = tt; back = tt }
+-- a bank with no frame at home hands out none
+handed_empty : (banks : BankPair) (kind : FrameKind) (frames : FramesIn) → brought_of frames ≡ Scanned → HandedIn banks kind Scanned frames
+handed_empty banks kind NoneYet told = absurd cc
+handed_empty banks kind (Given frames) told = absurd (not_scan (length frames.items == 0) (length frames.items) told)
+handed_empty banks kind (ScanIn scan) told = record { told = refl; none = λ is. refl; own = tt; back = tt }
+
+pub handed_scan : (banks : BankPair) (kind : FrameKind) (home : ℕ) (frames : FramesIn) → home ≡ 0 → brought_of frames ≡ cond (nat_le 1 home) (Frames 1) Scanned → HandedIn banks kind Scanned frames
+handed_scan banks kind home frames none told = handed_empty banks kind frames (told ∙ ap (λ n. cond (nat_le 1 n) (Frames 1) Scanned) none)

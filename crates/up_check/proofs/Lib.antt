@@ -3,6 +3,5 @@ mod Computed
 pub mod CallsHanded
 pub mod TicketHolders
 pub mod OneByOne
-pub mod OwnFrames
 pub mod Replayed
 pub mod ReplayFinds

@@ -6,7 +6,7 @@ use Rattle.up_model.specs.declared.entry.Call.{Call}
 use Rattle.up_model.specs.declared.entry.Entry.{Entry}
 use Rattle.up_model.specs.declared.entry.Reply.{Reply}
 use Rattle.up_object.specs.Whole.{Whole, after}
-use Rattle.up_core.specs.Groups.{bringing}
+use Rattle.up_model.specs.Bringing.{bringing}
 use Rattle.up_core.specs.Enough.{SameButFrames}
 use Rattle.up_check.specs.Replaying.{brought_again, again, Replays}
 use Rattle.up_check.specs.declared.judging.Judged.TheVariants.{Right, Fault}

@@ -12,11 +12,11 @@ use Rattle.up_model.specs.declared.entry.Call.TheVariants as calls
 use Rattle.up_model.specs.declared.entry.Entry.{Entry}
 use Rattle.up_model.specs.declared.entry.Reply.{Reply}
 use Rattle.up_object.specs.OneCall.{brought_count}
-use Rattle.up_core.specs.Groups.{bringing}
+use Rattle.up_model.specs.Bringing.{bringing, brought_by}
 use Rattle.up_core.specs.Enough.{SameButFrames, needed, is_enough}
 use Rattle.up_core.proofs.Enough.{only_for_enough, proper_alike}
 use Rattle.up_check.specs.Faults.{IsFault}
-use Rattle.up_check.specs.Replaying.{brought_by, at_most, brought_again, again, Replays}
+use Rattle.up_check.specs.Replaying.{at_most, brought_again, again, Replays}
 use Rattle.up_check.specs.declared.judging.Judged.TheVariants.{Right}
 use Rattle.up_check.specs.declared.replay.MadeAgain.TheVariants.{Judged as JudgedAgain}
 

@@ -14,7 +14,7 @@ use Rattle.up_model.specs.declared.entry.Call.{Call}
 use Rattle.up_model.specs.declared.entry.Call.TheVariants as calls
 use Rattle.up_model.specs.declared.entry.Entry.{Entry}
 use Rattle.up_object.specs.Asks.{AsksStand, access_in}
-use Rattle.up_check.specs.Replaying.{brought_by}
+use Rattle.up_model.specs.Bringing.{brought_by}
 use Rattle.up_object.proofs.Waiters.{held_is}
 
 holds_it : (ticket : Option Ticket) (waiter : Option (Option Waiter)) (who : ℕ) → holder_by ticket waiter ≡ Some who → option_map (λ (x : Ticket). x.who) ticket ≡ Some who

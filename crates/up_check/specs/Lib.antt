@@ -1,5 +1,5 @@
 pub mod Faults
 pub mod Handed
 pub mod Judging
-pub mod Pools
+pub mod Banks
 pub mod Replaying

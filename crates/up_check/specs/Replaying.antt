@@ -4,10 +4,10 @@ use Rattle.up_model.specs.declared.entry.Birth.{Birth}
 use Rattle.up_model.specs.declared.entry.Brought.{Brought}
 use Rattle.up_model.specs.declared.entry.Brought.TheVariants.{Nothing, Frames, Scanned}
 use Rattle.up_model.specs.declared.entry.Call.{Call}
-use Rattle.up_model.specs.declared.entry.Call.TheVariants.{Read, Write, Retry, Supply, Dirty, Pin, Evict, Borrow, Vacate, Resize, Zero, Detach, Packet, Leave, Tell}
+use Rattle.up_model.specs.declared.entry.Call.TheVariants.{Supply}
 use Rattle.up_model.specs.declared.entry.Entry.{Entry}
 use Rattle.up_object.specs.OneCall.{brought_count}
-use Rattle.up_core.specs.Groups.{bringing}
+use Rattle.up_model.specs.Bringing.{brought_by, bringing}
 use Rattle.up_core.specs.Enough.{SameButFrames, needed}
 use Rattle.up_check.specs.Judging.{IsJudged, Finds}
 use Rattle.up_check.specs.declared.replay.MadeAgain.{MadeAgain}
@@ -15,29 +15,6 @@ use Rattle.up_check.specs.declared.replay.MadeAgain.TheVariants.{Judged as Judge
 use Rattle.up_check.specs.declared.replay.Replayed.{Replayed}
 use Rattle.up_check.specs.declared.replay.Replayed.TheVariants.{Found, TooLarge}
 use Rattle.up_check.specs.declared.judging.Judged.TheVariants.{Right, Fault}
-
--- what a call says that it brought: nothing where it takes no frames
-abbrev pub brought_by : Call → Brought
-brought_by (Read piece last brought) = brought
-brought_by (Write off bytes last brought) = brought
-brought_by (Retry ticket brought) = brought
-brought_by (Supply range bytes brought) = brought
-brought_by (Dirty range brought) = brought
-brought_by (Pin range brought) = brought
-brought_by (Borrow page brought) = brought
-brought_by (Vacate brought) = brought
-brought_by _ = Nothing
-
--- calls that take no frames: those on the whole object, and a zero call
-abbrev pub is_rare : Call → Bool
-is_rare (Evict limit most) = true
-is_rare (Resize pages) = true
-is_rare (Zero range) = true
-is_rare Detach = true
-is_rare Packet = true
-is_rare (Leave role) = true
-is_rare (Tell told) = true
-is_rare _ = false
 
 -- n frames, where there are as many
 abbrev pub at_most : ℕ → Brought → Brought

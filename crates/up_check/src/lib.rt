@@ -3,17 +3,16 @@
 //! Used by itself in `judge_journals` and `pagerd`.
 #![tactic(auto)]
 
+mod banks;
 mod bringing;
 mod judging;
 mod looking;
-mod pool;
 mod replay;
 mod sizes;
 mod verdict;
 
-pub use bringing::{brought_by, call_with};
+pub use banks::ReplayBanks;
 pub use judging::{check, check_slow};
-pub use pool::Pool;
 pub use replay::{kind_of, may_call};
 pub use sizes::{Sizes, is_fair};
 pub use verdict::Verdict;

@@ -1,5 +1,5 @@
 //! Judges a journal by replay: its calls are made on an object, one after the other, and the replies are compared.
-ghost use Rattle.std.specs.Prelude.{◌≡◌, ◌&&◌, not, List, [], IsTrue, IfOk, OnOk, OnErr};
+ghost use Rattle.std.specs.Prelude.{◌≡◌, ◌<◌, ◌≤◌, ◌&&◌, not, List, [], IsTrue, IfOk, OnOk, OnErr};
 ghost use Rattle.up_model.specs.Reply as replies;
 ghost use Rattle.up_model.specs.Parked as parking;
 ghost use Rattle.up_model.specs.Tickets as tickets;
@@ -12,9 +12,9 @@ ghost use Rattle.up_core.specs.Enough.{SameButFrames};
 ghost use Rattle.up_core.specs.Requests.{kind_taken, Agrees};
 ghost use Rattle.up_check.specs.Replaying.{FindsByReplay, Replays};
 
-use crate::bringing::{brought_again, brought_by, call_with};
+use crate::banks::ReplayBanks;
+use crate::bringing::brought_again;
 use crate::judging::{Fault, Judged};
-use crate::pool::Pool;
 use crate::sizes::{is_fair, sizes_for};
 use std::alloc::Global;
 use up_bank::FrameKind;
@@ -51,11 +51,22 @@ pub(crate) fn replay(alloc: Global, journal: &Named) -> Result<Replayed, Memory>
     let Some(sizes) = sizes_for(journal) else {
         return Ok(Replayed::TooLarge);
     };
-    let mut pool = Pool::new(alloc, sizes)?;
-    let mut object = pool.birth(alloc, journal.birth)?;
-    let found = replay_all(alloc, &mut object, &mut pool, journal.entries.as_slice());
+    let mut banks = ReplayBanks::new(alloc, sizes)?;
+    let found = replay_over(alloc, &mut banks, journal);
+    banks.end();
+    found
+}
+
+/// Finds the first entry at fault in a journal, with frames of these banks.
+fn replay_over(alloc: Global, banks: &mut ReplayBanks, journal: &Named) -> Result<Replayed, Memory>
+    requires users { (0 < journal.now.birth.users) × (journal.now.birth.users ≤ 64) }
+    requires pagers { (0 < journal.now.birth.pagers) × (journal.now.birth.pagers ≤ 64) }
+    ensures { IfOk result (FindsByReplay journal.now.birth journal.now.entries) }
+{
+    let mut object = banks.birth(alloc, journal.birth)?;
+    let found = replay_all(alloc, &mut object, banks, journal.entries.as_slice());
     let (_, held) = object.end();
-    pool.bring_home(held);
+    banks.bring_home(held);
     found
 }
 
@@ -63,16 +74,16 @@ pub(crate) fn replay(alloc: Global, journal: &Named) -> Result<Replayed, Memory>
 fn replay_all(
     alloc: Global,
     object: &mut Object,
-    pool: &mut Pool,
+    banks: &mut ReplayBanks,
     entries: &[Entry],
 ) -> Result<Replayed, Memory>
     requires fresh { object.old.journal ≡ [] }
-    requires banks { object.old.banks ≡ pool.old }
+    requires banks { object.old.banks ≡ banks.old }
     ensures told { IfOk result (FindsByReplay object.old.birth entries.now) }
-    ensures same { (object.new.banks ≡ pool.new) × (pool.new ≡ pool.old) }
+    ensures same { (object.new.banks ≡ banks.new) × (banks.new ≡ banks.old) }
 {
     for place in 0..entries.len() {
-        match replay_one(alloc, object, pool, &entries[place])? {
+        match replay_one(alloc, object, banks, &entries[place])? {
             MadeAgain::TooLarge => return Ok(Replayed::TooLarge),
             MadeAgain::Judged(Judged::Right) => {}
             MadeAgain::Judged(Judged::Fault(expected)) => {
@@ -91,22 +102,22 @@ fn replay_all(
 fn replay_one(
     alloc: Global,
     object: &mut Object,
-    pool: &mut Pool,
+    banks: &mut ReplayBanks,
     entry: &Entry,
 ) -> Result<MadeAgain, Memory>
-    requires banks { object.old.banks ≡ pool.old }
+    requires banks { object.old.banks ≡ banks.old }
     ensures told { (h : List EntryValue) → SameButFrames object.old.journal h → IfOk result (Replays object.old.birth h entry.now object.new.journal) }
-    ensures same { (object.new.birth ≡ object.old.birth) × (object.new.banks ≡ pool.new) × (pool.new ≡ pool.old) }
+    ensures same { (object.new.birth ≡ object.old.birth) × (object.new.banks ≡ banks.new) × (banks.new ≡ banks.old) }
 {
     if !may_call(object, entry.who, &entry.call) {
         return Ok(MadeAgain::Judged(Judged::Fault(None)));
     }
     let brought = brought_again(object, &entry.call);
-    let call = call_with(alloc, &entry.call, brought)?;
-    let Some(frames) = pool.hand(alloc, kind_of(&call), brought)? else {
+    let call = entry.call.copy_bringing(alloc, brought)?;
+    let Some(frames) = banks.hand(alloc, kind_of(&call), brought)? else {
         return Ok(MadeAgain::TooLarge);
     };
-    let reply = make(alloc, object, pool, entry, call, frames)?;
+    let reply = make(alloc, object, banks, entry, call, frames)?;
     if entry.reply.same(&reply) {
         Ok(MadeAgain::Judged(Judged::Right))
     } else {
@@ -120,7 +131,7 @@ pub fn may_call(object: &Object, who: u32, call: &Call) -> bool
     ensures { result ≡ replies.proper object.now.birth object.now.journal who call.now }
 {
     match retried(call) {
-        Some(ticket) => may_retry(holds(object, who, ticket), brought_by(call)),
+        Some(ticket) => may_retry(holds(object, who, ticket), call.brought()),
         None => is_proper(&object.born(), &[], who, call),
     }
 }
@@ -178,28 +189,28 @@ pub fn kind_of(call: &Call) -> FrameKind
 fn make(
     alloc: Global,
     object: &mut Object,
-    pool: &mut Pool,
+    banks: &mut ReplayBanks,
     entry: &Entry,
     call: Call,
     frames: FramesIn,
 ) -> Result<Reply, Memory>
-    requires banks { object.old.banks ≡ pool.old }
-    requires own { AllAre (bank_of pool.old (kind_taken call)) (frames_of frames) }
-    requires back { AllOwn pool.old (frames_of frames) }
+    requires banks { object.old.banks ≡ banks.old }
+    requires own { AllAre (bank_of banks.old (kind_taken call)) (frames_of frames) }
+    requires back { AllOwn banks.old (frames_of frames) }
     requires agrees { Agrees call frames }
     requires proper { IsTrue (replies.proper object.old.birth object.old.journal entry.now.who call) }
     ensures reply { IfOk result (λ reply. reply ≡ replies.reply object.old.birth object.old.journal entry.now.who entry.now.epoch call) }
     ensures object { OnOk result (object.new ≡ after object.old entry.now.who entry.now.epoch call) }
     ensures err { OnErr result (object.new ≡ object.old) }
-    ensures pool { pool.new ≡ pool.old }
+    ensures banks { banks.new ≡ banks.old }
 {
     match step(object, alloc, entry.who, entry.epoch, call, frames) {
         Ok(Stepped { reply, back }) => {
-            pool.bring_home(back);
+            banks.bring_home(back);
             Ok(reply)
         }
         Err((memory, back)) => {
-            pool.bring_home(back);
+            banks.bring_home(back);
             Err(memory)
         }
     }

@@ -2,7 +2,6 @@
 ghost use Rattle.std.specs.Prelude.{◌<◌, ◌≤◌, IsTrue, IfSome};
 ghost use Rattle.up_bank.specs.Standing.{most_frames};
 
-use crate::bringing::brought_by;
 use crate::replay::kind_of;
 use up_bank::FrameKind;
 use up_model::{Birth, Brought, Call, Entry, Reply};
@@ -75,7 +74,7 @@ fn need_with(need: Need, entry: &Entry) -> Need {
 
 /// How many frames are brought with those of one call more.
 fn brought_with(brought: Sizes, call: &Call) -> Sizes {
-    let frames = match brought_by(call) {
+    let frames = match call.brought() {
         Brought::Frames(count) => count,
         _ => 0,
     };

@@ -2,6 +2,7 @@
 use Rattle.std.proofs.Common.{◌≡◌, ℕ, ◌<◌, ◌≤◌, ◌==◌, ◌&&◌, ◌⊎◌, Bool, true, false, cond, max, Option, List, [], ◌∷◌, length, suc, nat_lt, refl, ap, sym, ◌∙◌, subst, arith, inl, inr}
 use Rattle.std.proofs.lemmas.Bool.{false≢true}
 use Rattle.std.proofs.lemmas.Bool.Decides.{nat_tests}
+use Rattle.up_model.specs.Answered.{is_begin}
 use Rattle.up_model.specs.Attempts.{page_of, accepts}
 use Rattle.up_model.specs.Size.{size}
 use Rattle.up_model.specs.Value.{there, settled}
@@ -14,7 +15,7 @@ use Rattle.up_model.proofs.Placing.{first_all, first_before}
 use Rattle.up_claims.specs.Claimed.{next_claim, claim_of, in_back, has_copied}
 use Rattle.up_claims.specs.declared.claim.Claim.{Claim}
 use Rattle.up_coherence.specs.Coherent.{Firm, Coherent}
-use Rattle.up_coherence.specs.Durable.{is_begin, tour_at, stores, flushes, rests_within, reached, durable, Dated, Lasting}
+use Rattle.up_coherence.specs.Durable.{tour_at, stores, flushes, rests_within, reached, durable, Dated, Lasting}
 use Rattle.up_coherence.proofs.Pages.{unclean_parts}
 use Rattle.up_coherence.proofs.Firmness.{false_by, apart_true, back_holds, copied_back, own_claim, other_claim, by_who}
 

@@ -3,6 +3,7 @@ use Rattle.std.proofs.Common.{◌≡◌, ℕ, ◌*◌, ◌≤◌, ◌==◌, ◌&
 use Rattle.std.proofs.lemmas.Bool.{false≢true}
 use Rattle.std.proofs.lemmas.Bool.Decides.{nat_tests}
 use Rattle.up_num.specs.Span.{covers}
+use Rattle.up_model.specs.Answered.{is_begin}
 use Rattle.up_model.specs.Attempts.{page_of, accepts}
 use Rattle.up_model.specs.Value.{there, settled, byte_or_zero}
 use Rattle.up_model.specs.Legal.{Legal}
@@ -17,7 +18,7 @@ use Rattle.up_claims.specs.Claimed.{next_claim, with_copy, with_store, without_f
 use Rattle.up_claims.specs.declared.claim.Claim.{Claim}
 use Rattle.up_claims.specs.declared.claim.Claim.TheVariants.{Fetch, Back}
 use Rattle.up_coherence.specs.Coherent.{Coherent, ReadsNewest}
-use Rattle.up_coherence.specs.Durable.{is_begin, tour_at, stores, flushes, rests_within, reached, durable, Dated, Lasting}
+use Rattle.up_coherence.specs.Durable.{tour_at, stores, flushes, rests_within, reached, durable, Dated, Lasting}
 use Rattle.up_coherence.specs.StepPremises.{is_quiet, made, StoresHand, StoresElsewhere}
 use Rattle.up_coherence.specs.Histories.{Leaves, Left, IsBlock, Made, QuietMade, SyncMade, ResizeMade, FailMade, FetchMade, SupplyMade, BeginMade, CopyMade, StoreMade, StoreFailMade, EndMade, Ran, Starts, Goes}
 use Rattle.up_coherence.proofs.Pages.{newest_kept, unclean_parts}

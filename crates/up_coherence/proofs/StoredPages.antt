@@ -1,6 +1,7 @@
 -- A page that was stored was reached at the begin of its writeback.
 use Rattle.std.proofs.Common.{◌≡◌, ℕ, ◌≤◌, ◌==◌, true, false, Option, Some, None, List, ◌∷◌, suc, refl, ap, sym, ◌∙◌, subst, arith, inl, inr, ◌&&◌, not, ◌⊎◌, Bool}
 use Rattle.std.proofs.lemmas.Bool.{false≢true}
+use Rattle.up_model.specs.Answered.{is_begin}
 use Rattle.up_model.specs.declared.entry.Birth.{Birth}
 use Rattle.up_model.specs.declared.entry.Entry.{Entry}
 use Rattle.up_model.specs.declared.entry.Told.TheVariants as told
@@ -9,7 +10,7 @@ use Rattle.up_model.proofs.Bools.{nat_eq_true, nat_eq-same}
 use Rattle.up_claims.specs.Claimed.{next_claim, with_copy, with_store, without_fetch, given_number, claim_of, has_stored, one_page}
 use Rattle.up_claims.specs.declared.claim.Claim.{Claim}
 use Rattle.up_claims.specs.declared.claim.Claim.TheVariants.{Fetch, Back}
-use Rattle.up_coherence.specs.Durable.{is_begin, tour_at, stores, reached, Syncing}
+use Rattle.up_coherence.specs.Durable.{tour_at, stores, reached, Syncing}
 use Rattle.up_coherence.specs.StepPremises.{made}
 use Rattle.up_coherence.specs.Histories.{Leaves, Made, QuietMade, SyncMade, ResizeMade, FailMade, FetchMade, SupplyMade, BeginMade, CopyMade, StoreMade, StoreFailMade, EndMade, Ran, Starts, Goes}
 use Rattle.up_coherence.proofs.Firmness.{apart_true, own_claim, other_claim, by_who, quiet_claim}

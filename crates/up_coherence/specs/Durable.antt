@@ -1,6 +1,7 @@
 -- What of a page's bytes a stop leaves: from which moment they are at least. A content of a block is a function from a byte's offset to the
 -- byte, and what a stop may leave in a block is a test of contents.
 use Rattle.std.specs.Prelude.{◌≡◌, ◌⊎◌, ℕ, ◌≤◌, ◌<◌, ◌==◌, ◌&&◌, Bool, true, false, cond, max, List, [], ◌∷◌, length, suc, nat_lt, Some}
+use Rattle.up_model.specs.Answered.{is_begin}
 use Rattle.up_model.specs.Attempts.{page_of, accepts}
 use Rattle.up_model.specs.Size.{size}
 use Rattle.up_model.specs.Value.{settled}
@@ -13,10 +14,6 @@ use Rattle.up_model.specs.declared.entry.Told.TheVariants.{Stored, Flushed}
 use Rattle.up_model.specs.declared.entry.Call.{Call}
 use Rattle.up_model.specs.declared.entry.Call.TheVariants.{Begin, Tell}
 use Rattle.up_claims.specs.Claimed.{claim_of, in_back, has_copied}
-
-abbrev pub is_begin : Call → Bool
-is_begin (Begin range zero) = true
-is_begin _ = false
 
 -- the position of an actor's last accepted begin
 abbrev pub tour_at : List Entry → ℕ → ℕ

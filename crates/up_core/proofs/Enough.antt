@@ -28,8 +28,7 @@ use Rattle.up_model.specs.declared.entry.Call.TheVariants as calls
 use Rattle.up_model.specs.declared.entry.Entry.{Entry}
 use Rattle.up_model.specs.declared.entry.Reply.{Reply}
 use Rattle.up_model.specs.declared.entry.Reply.TheVariants as answer
-use Rattle.up_core.specs.Groups.{bringing}
-use Rattle.up_core.specs.Requests.{takes_frames}
+use Rattle.up_model.specs.Bringing.{bringing, takes_frames}
 use Rattle.up_core.specs.Enough.{frames_asked, needed, RepliesAskOnlyForEnough, EnoughSuffices, ProperWithoutFrames, BytesWithoutFrames}
 use Rattle.up_core.proofs.SameReplies.{proper_same, reply_same}
 use Rattle.up_core.proofs.SamePages.{bytes_same}

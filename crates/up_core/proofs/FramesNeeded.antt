@@ -6,6 +6,7 @@ use Rattle.std.proofs.lemmas.Bool.Decides.{nat_tests}
 use Rattle.up_num.specs.declared.pages.PageNo.{PageNo}
 use Rattle.up_num.specs.declared.answers.Outcome.TheVariants.{Freed}
 use Rattle.up_num.specs.declared.answers.Refusal.TheVariants as refusal
+use Rattle.up_model.specs.Answered.{may_need}
 use Rattle.up_model.specs.Attempts.{Access, page_of}
 use Rattle.up_model.specs.Size.{size, range_fits}
 use Rattle.up_model.specs.Value.{there, marked, begun, settled}
@@ -25,7 +26,7 @@ use Rattle.up_model.specs.declared.entry.Reply.{Reply}
 use Rattle.up_model.specs.declared.entry.Reply.TheVariants as answer
 use Rattle.up_model.proofs.Bools.{not_true}
 use Rattle.up_core.specs.Enough.{frames_asked, needed}
-use Rattle.up_core.specs.Needs.{may_need, write_needs, dirty_look}
+use Rattle.up_core.specs.Needs.{write_needs, dirty_look}
 use Rattle.up_core.proofs.Enough.{wait_none, told_none, asked_some, where_none, none_asked}
 
 dirty_by : (here mark rest run loan : Bool) → dirty_look (look_by here mark rest run loan) ≡ ((here && not rest) && not run)

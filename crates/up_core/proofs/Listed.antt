@@ -13,7 +13,7 @@ use Rattle.up_object.specs.Change.{AllAre, AllOwn}
 use Rattle.up_object.specs.Whole.{Whole, held}
 use Rattle.up_object.specs.OneCall.{frames_of}
 use Rattle.up_core.specs.declared.requests.Request.{Request}
-use Rattle.up_core.specs.Requests.{Keeps, AllKeep, kind_taken, after_one, after_all, replies_to, replies_in, handed, given_back, AllBackOwn}
+use Rattle.up_core.specs.Requests.{Keeps, AllKeep, kind_taken, after_one, after_all, replies_to, replies_in, handed, given_back, Balances, EachBalances, AllBackOwn}
 use Rattle.up_core.specs.Running.{Ran, Stopped}
 
 pub after_append : (whole : Whole) (xs ys : List Request) → after_all whole (xs ++ ys) ≡ after_all (after_all whole xs) ys
@@ -43,11 +43,21 @@ pub record Does (now new : Whole) (request : Request) (stepped : Stepped) : Type
   pub frames : (kind : FrameKind) → count_kind kind stepped.back.items + held new.birth new.journal kind ≡ count_kind kind (frames_of request.frames) + held now.birth now.journal kind
   pub own : AllOwn now.banks stepped.back.items
 
+each_push : (old now : Whole) (ready : List Request) (request : Request) (replies : List Stepped) (stepped : Stepped) → now ≡ after_all old ready →
+    EachBalances old ready replies → replies_in replies ≡ replies_to old ready → Balances now request stepped → EachBalances old (ready ++ request ∷ []) (replies ++ stepped ∷ [])
+each_push old now [] request [] stepped is each told one = (subst (λ (w : Whole). Balances w request stepped) is one, tt)
+each_push old now [] request (s ∷ replies) stepped is each told one = absurd cc
+each_push old now (x ∷ ready) request [] stepped is each told one = absurd each
+each_push old now (x ∷ ready) request (s ∷ replies) stepped is each told one =
+    let rest : replies_in replies ≡ replies_to (after_one old x) ready = cc in
+    (each.0, each_push (after_one old x) now ready request replies stepped is each.1 rest one)
+
 pub ran_none : (old : Whole) (replies : List Stepped) → replies ≡ [] → Ran old old [] replies
 ran_none old replies none = record {
   stands = refl;
   told = ap replies_in none;
   frames = λ kind. ap (λ (rs : List Stepped). given_back kind rs + held old.birth old.journal kind) none;
+  each = tt;
   own = subst (λ (rs : List Stepped). AllBackOwn old.banks rs) (sym none) tt;
 }
 
@@ -72,6 +82,8 @@ ran_next old now new ready request replies stepped ran does = record {
       ∙ moved (count_kind kind stepped.back.items) (given_back kind replies) (count_kind kind (frames_of request.frames)) (handed kind ready)
       (held old.birth old.journal kind) (held now.birth now.journal kind) (held new.birth new.journal kind) (does.frames kind) (ran.frames kind)
       ∙ ap (λ n. n + held old.birth old.journal kind) (sym (sum_by_push (λ (r : Request). count_kind kind (frames_of r.frames)) ready request));
+  each = each_push old now ready request replies stepped ran.stands ran.each ran.told
+      (λ kind. subst (λ (w : Whole). count_kind kind stepped.back.items + held w.birth w.journal kind ≡ count_kind kind (frames_of request.frames) + held now.birth now.journal kind) does.stands (does.frames kind));
   own = backs_append old.banks replies (stepped ∷ []) ran.own (subst (λ (banks : BankPair). AllOwn banks stepped.back.items) (ap (λ (w : Whole). w.banks) ran.stands ∙ banks_stay old ready) does.own, tt);
 }
 

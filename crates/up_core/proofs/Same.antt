@@ -18,7 +18,7 @@ use Rattle.up_model.specs.declared.entry.Entry.{Entry}
 use Rattle.up_model.specs.declared.entry.Reply.{Reply}
 use Rattle.up_model.specs.declared.entry.Role.{Role}
 use Rattle.up_model.specs.declared.entry.Role.TheVariants.{User, Pager}
-use Rattle.up_core.specs.Groups.{bringing}
+use Rattle.up_model.specs.Bringing.{bringing}
 use Rattle.up_core.specs.Enough.{bare, all_bare}
 
 -- the tests of a call

@@ -20,7 +20,7 @@ use Rattle.up_model.specs.declared.entry.Brought.TheVariants.{Nothing}
 use Rattle.up_model.specs.declared.entry.Call.{Call}
 use Rattle.up_model.specs.declared.entry.Call.TheVariants as calls
 use Rattle.up_model.specs.declared.entry.Entry.{Entry}
-use Rattle.up_core.specs.Groups.{bringing}
+use Rattle.up_model.specs.Bringing.{bringing}
 use Rattle.up_core.specs.Enough.{bare, all_bare}
 use Rattle.up_core.proofs.Same.{attempt_same, size_same, in_role_same, detached_same, next_ticket_same, pins_same, always_same}
 use Rattle.up_core.proofs.SamePages.{there_same, plain_same, settled_same, dirty_same, empty_same, last_use_same, cold_since_same, age_same}

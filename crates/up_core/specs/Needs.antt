@@ -2,19 +2,10 @@
 use Rattle.std.specs.Prelude.{ℕ, Bool, true, false}
 use Rattle.up_num.specs.declared.answers.PageState.{PageState}
 use Rattle.up_num.specs.declared.answers.PageState.TheVariants.{Dirty}
+use Rattle.up_model.specs.Answered.{may_need}
 use Rattle.up_model.specs.declared.entry.Call.{Call}
 use Rattle.up_model.specs.declared.entry.Call.TheVariants.{Write, Retry, Dirty as DirtyCall, Pin, Borrow, Vacate}
 use Rattle.up_model.specs.Looks.{PageLook, Missing, Zeros, Framed}
-
--- calls that may be told how many frames they need
-abbrev pub may_need : Call → Bool
-may_need (Write off bytes last brought) = true
-may_need (Retry ticket brought) = true
-may_need (DirtyCall range brought) = true
-may_need (Pin range brought) = true
-may_need (Borrow page brought) = true
-may_need (Vacate brought) = true
-may_need _ = false
 
 -- how many frames a write needs, by whether its bytes lie within the object, its page is there, it must ask for leave first, and its page has no frame of its own
 abbrev pub write_needs : Bool → Bool → Bool → Bool → ℕ

@@ -1,35 +1,20 @@
 -- What a call owes, and what a list of requests makes of an object.
-use Rattle.std.specs.Prelude.{◌≡◌, ℕ, ◌-◌, Bool, Option, Some, None, is_some, MatchOption, List, [], ◌∷◌, length, map, take, sum_by, IsTrue}
+use Rattle.std.specs.Prelude.{◌≡◌, ℕ, ◌+◌, ◌-◌, MatchOption, List, [], ◌∷◌, length, map, take, sum_by, IsTrue}
 use Rattle.up_bank.specs.declared.kind.FrameKind.{FrameKind}
 use Rattle.up_bank.specs.declared.kind.FrameKind.TheVariants.{Ordinary, Loaned}
 use Rattle.up_pages.specs.Frames.{count_kind}
 use Rattle.up_model.specs.Reply.{proper, reply}
-use Rattle.up_model.specs.declared.entry.Brought.{Brought}
 use Rattle.up_model.specs.declared.entry.Call.{Call}
-use Rattle.up_model.specs.declared.entry.Call.TheVariants.{Read, Write, Retry, Supply, Dirty, Pin, Borrow, Vacate}
+use Rattle.up_model.specs.Bringing.{brought_in}
+use Rattle.up_model.specs.declared.entry.Call.TheVariants.{Borrow}
 use Rattle.up_model.specs.declared.entry.Reply.{Reply}
 use Rattle.up_object.specs.declared.step.FramesIn.{FramesIn}
 use Rattle.up_object.specs.declared.step.Stepped.{Stepped}
 use Rattle.up_object.specs.Parts.{BankPair, bank_of}
 use Rattle.up_object.specs.Change.{AllAre, AllOwn}
-use Rattle.up_object.specs.Whole.{Whole, after}
+use Rattle.up_object.specs.Whole.{Whole, after, held}
 use Rattle.up_object.specs.OneCall.{brought_of, frames_of}
 use Rattle.up_core.specs.declared.requests.Request.{Request}
-
--- what a call says that it brought, where it takes frames
-abbrev pub brought_in : Call → Option Brought
-brought_in (Read piece last brought) = Some brought
-brought_in (Write off bytes last brought) = Some brought
-brought_in (Retry ticket brought) = Some brought
-brought_in (Supply range bytes brought) = Some brought
-brought_in (Dirty range brought) = Some brought
-brought_in (Pin range brought) = Some brought
-brought_in (Borrow page brought) = Some brought
-brought_in (Vacate brought) = Some brought
-brought_in _ = None
-
-abbrev pub takes_frames : Call → Bool
-takes_frames call = is_some (brought_in call)
 
 -- a call says what it brought, and one that takes no frames is handed none
 abbrev pub Agrees : Call → FramesIn → Type 0
@@ -76,6 +61,17 @@ given_back kind replies = sum_by (λ stepped. count_kind kind stepped.back.items
 
 abbrev pub replies_in : List Stepped → List Reply
 replies_in replies = map (λ stepped. stepped.reply) replies
+
+abbrev pub Balances : Whole → Request → Stepped → Type 0
+Balances whole request stepped = (kind : FrameKind) →
+    count_kind kind stepped.back.items + held (after_one whole request).birth (after_one whole request).journal kind
+    ≡ count_kind kind (frames_of request.frames) + held whole.birth whole.journal kind
+
+-- of each request, the frames that come back and those that are held after it are together those that it handed in and those that were held before it
+abbrev pub EachBalances : Whole → List Request → List Stepped → Type 0
+EachBalances whole [] replies = Unit {0}
+EachBalances whole (request ∷ rest) [] = ⊥
+EachBalances whole (request ∷ rest) (stepped ∷ others) = Balances whole request stepped × EachBalances (after_one whole request) rest others
 
 -- all frames that come back are of the object's banks
 abbrev pub AllBackOwn : BankPair → List Stepped → Type 0

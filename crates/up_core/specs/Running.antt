@@ -10,13 +10,14 @@ use Rattle.up_object.specs.Change.{AllAre, AllOwn}
 use Rattle.up_object.specs.Whole.{Whole, held}
 use Rattle.up_object.specs.OneCall.{frames_of}
 use Rattle.up_core.specs.declared.requests.Request.{Request}
-use Rattle.up_core.specs.Requests.{kind_taken, after_all, replies_to, replies_in, handed, given_back, AllBackOwn, tried, done}
+use Rattle.up_core.specs.Requests.{kind_taken, after_all, replies_to, replies_in, handed, given_back, EachBalances, AllBackOwn, tried, done}
 
 -- these requests were done, and this is what they answered
 pub record Ran (old now : Whole) (ready : List Request) (replies : List Stepped) : Type 0 where
   pub stands : now ≡ after_all old ready
   pub told : replies_in replies ≡ replies_to old ready
   pub frames : (kind : FrameKind) → given_back kind replies + held now.birth now.journal kind ≡ handed kind ready + held old.birth old.journal kind
+  pub each : EachBalances old ready replies
   pub own : AllBackOwn old.banks replies
 
 -- after those that were done one met want of memory, and these are its frames

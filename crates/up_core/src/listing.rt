@@ -5,7 +5,7 @@ ghost use Rattle.up_model.specs.Size.{size};
 ghost use Rattle.up_object.specs.Change.{AllOwn};
 ghost use Rattle.up_object.specs.Whole.{Whole, held};
 ghost use Rattle.up_object.specs.OneCall.{frames_of};
-ghost use Rattle.up_core.specs.Requests.{AllKeep, AllBackOwn, after_all, replies_to, replies_in, handed, given_back, tried, done};
+ghost use Rattle.up_core.specs.Requests.{AllKeep, AllBackOwn, EachBalances, after_all, replies_to, replies_in, handed, given_back, tried, done};
 ghost use Rattle.up_core.specs.Running.{Ran, Stopped, Ended, all_handed};
 
 use crate::gathering::{gather, pour};
@@ -32,6 +32,7 @@ pub fn run_list(
     ensures frames { IfOk result (λ replies. (kind : FrameKindValue)
         → given_back kind replies + held object.new.birth object.new.journal kind
         ≡ handed kind list + held object.old.birth object.old.journal kind) }
+    ensures each { IfOk result (λ replies. EachBalances object.old list replies) }
     ensures own { IfOk result (λ replies. AllBackOwn object.old.banks replies) }
     ensures met { IfErr result (λ failed. length failed.1 < length list) }
     ensures left { IfErr result (λ failed. tried list failed.1 ++ failed.1 ≡ list) }

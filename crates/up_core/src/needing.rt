@@ -12,6 +12,7 @@ ghost use Rattle.up_model.specs.declared.entry.Brought.TheVariants.{Nothing};
 ghost use Rattle.up_model.specs.declared.entry.Call.TheVariants as calls;
 ghost use Rattle.up_object.specs.Parts.{shown};
 ghost use Rattle.up_core.specs.Enough.{frames_asked, needed};
+ghost use Rattle.up_model.specs.Answered as answered;
 ghost use Rattle.up_core.specs.Needs as needing;
 ghost use Rattle.up_core.specs.Needs.{write_needs, dirty_look};
 
@@ -42,7 +43,7 @@ pub fn needs(object: &Object, call: &Call) -> u32
 
 /// Whether a call may be told how many frames it needs.
 fn may_need(call: &Call) -> bool
-    ensures { result ≡ needing.may_need call.now }
+    ensures { result ≡ answered.may_need call.now }
 {
     matches!(
         call,

@@ -5,8 +5,8 @@ ghost use Rattle.up_object.specs.Change.{AllAre, AllOwn};
 ghost use Rattle.up_object.specs.Whole.{after};
 ghost use Rattle.up_object.specs.Answered.{RepliesAsDue, FramesBalance};
 ghost use Rattle.up_object.specs.OneCall.{DoesCall, brought_of, frames_of};
-ghost use Rattle.up_core.specs.Groups.{bringing, is_filling, is_writeback, is_paging};
-ghost use Rattle.up_core.specs.Requests.{takes_frames, kind_taken, Agrees};
+ghost use Rattle.up_core.specs.Groups.{is_of_supply, is_of_clean, is_of_reclaim, is_of_size};
+ghost use Rattle.up_core.specs.Requests.{kind_taken, Agrees};
 
 use std::alloc::Global;
 use up_clean::{begin, dirty, end, query, stats};
@@ -48,37 +48,6 @@ fn step_by(object: &mut Object, alloc: Global, by: By, call: Call, frames: Frame
     requires proper { IsTrue (replies.proper object.old.birth object.old.journal by.who call) }
     ensures { DoesCall object.old object.new result by.who by.epoch call (frames_of frames) }
 {
-    if takes(&call) {
-        return access(object, alloc, by, call, frames);
-    }
-    frames.into_frames(alloc).end();
-    act(object, alloc, by, call)
-}
-
-/// Whether a call takes frames.
-fn takes(call: &Call) -> bool
-    ensures { result ≡ takes_frames call.now }
-{
-    matches!(
-        call,
-        Call::Read { .. }
-            | Call::Write { .. }
-            | Call::Retry { .. }
-            | Call::Supply { .. }
-            | Call::Dirty { .. }
-            | Call::Pin { .. }
-            | Call::Borrow { .. }
-            | Call::Vacate { .. }
-    )
-}
-
-/// Does a call that takes frames.
-fn access(object: &mut Object, alloc: Global, by: By, call: Call, frames: FramesIn) -> Step
-    requires takes { takes_frames call ≡ true }
-    requires own { AllAre (bank_of object.old.banks (kind_taken call)) (frames_of frames) }
-    requires proper { IsTrue (replies.proper object.old.birth object.old.journal by.who (bringing (brought_of frames) call)) }
-    ensures { DoesCall object.old object.new result by.who by.epoch (bringing (brought_of frames) call) (frames_of frames) }
-{
     let By { who, epoch } = by;
     match call {
         Call::Read { piece, last, .. } => {
@@ -94,7 +63,7 @@ fn access(object: &mut Object, alloc: Global, by: By, call: Call, frames: Frames
             touch(object, alloc, who, epoch, piece, Some(bytes), last, frames)
         }
         Call::Retry { ticket, .. } => retry(object, alloc, who, epoch, ticket, frames),
-        other => fill(object, alloc, by, other, frames),
+        other => resolve(object, alloc, by, other, frames),
     }
 }
 
@@ -110,69 +79,120 @@ fn piece_of(off: u64, bytes: &Bytes) -> Piece
     }
 }
 
-/// Does a call that takes frames and is no access.
-fn fill(object: &mut Object, alloc: Global, by: By, call: Call, frames: FramesIn) -> Step
-    requires fills { is_filling call ≡ true }
+/// Puts down the frames of a call that takes none.
+fn put_down(alloc: Global, frames: FramesIn)
+    requires { frames_of frames ≡ [] }
+{
+    frames.into_frames(alloc).end();
+}
+
+/// Does a call that is no access: those of `up_supply` itself.
+fn resolve(object: &mut Object, alloc: Global, by: By, call: Call, frames: FramesIn) -> Step
+    requires group { (is_of_supply call || (is_of_clean call || (is_of_reclaim call || is_of_size call))) ≡ true }
     requires own { AllAre (bank_of object.old.banks (kind_taken call)) (frames_of frames) }
-    requires proper { IsTrue (replies.proper object.old.birth object.old.journal by.who (bringing (brought_of frames) call)) }
-    ensures { DoesCall object.old object.new result by.who by.epoch (bringing (brought_of frames) call) (frames_of frames) }
+    requires agrees { Agrees call frames }
+    requires proper { IsTrue (replies.proper object.old.birth object.old.journal by.who call) }
+    ensures { DoesCall object.old object.new result by.who by.epoch call (frames_of frames) }
 {
     let By { who, epoch } = by;
     match call {
         Call::Supply { range, bytes, .. } => {
             supply(object, alloc, who, epoch, range, bytes, frames)
         }
+        Call::Fail { range, code } => {
+            put_down(alloc, frames);
+            fail(object, alloc, who, epoch, range, code)
+        }
+        Call::Detach => {
+            put_down(alloc, frames);
+            detach(object, alloc, who, epoch)
+        }
+        Call::Packet => {
+            put_down(alloc, frames);
+            packet(object, alloc, who, epoch)
+        }
+        Call::Leave { role } => {
+            put_down(alloc, frames);
+            leave(object, alloc, who, epoch, role)
+        }
+        Call::Tell(told) => {
+            put_down(alloc, frames);
+            tell(object, alloc, who, epoch, told)
+        }
+        other => write_back(object, alloc, by, other, frames),
+    }
+}
+
+/// Does a call of writeback, of reclaiming or on sizes: those of `up_clean` itself.
+fn write_back(object: &mut Object, alloc: Global, by: By, call: Call, frames: FramesIn) -> Step
+    requires group { (is_of_clean call || (is_of_reclaim call || is_of_size call)) ≡ true }
+    requires own { AllAre (bank_of object.old.banks (kind_taken call)) (frames_of frames) }
+    requires agrees { Agrees call frames }
+    requires proper { IsTrue (replies.proper object.old.birth object.old.journal by.who call) }
+    ensures { DoesCall object.old object.new result by.who by.epoch call (frames_of frames) }
+{
+    let By { who, epoch } = by;
+    match call {
         Call::Dirty { range, .. } => dirty(object, alloc, who, epoch, range, frames),
+        Call::Begin { range, zero } => {
+            put_down(alloc, frames);
+            begin(object, alloc, who, epoch, range, zero)
+        }
+        Call::End { range, of } => {
+            put_down(alloc, frames);
+            end(object, alloc, who, epoch, range, of)
+        }
+        Call::Query { range, room } => {
+            put_down(alloc, frames);
+            query(object, alloc, who, epoch, range, room)
+        }
+        Call::Stats { reset } => {
+            put_down(alloc, frames);
+            stats(object, alloc, who, epoch, reset)
+        }
+        other => reclaim(object, alloc, by, other, frames),
+    }
+}
+
+/// Does a call of reclaiming or on sizes: those of `up_reclaim` itself.
+fn reclaim(object: &mut Object, alloc: Global, by: By, call: Call, frames: FramesIn) -> Step
+    requires group { (is_of_reclaim call || is_of_size call) ≡ true }
+    requires own { AllAre (bank_of object.old.banks (kind_taken call)) (frames_of frames) }
+    requires agrees { Agrees call frames }
+    requires proper { IsTrue (replies.proper object.old.birth object.old.journal by.who call) }
+    ensures { DoesCall object.old object.new result by.who by.epoch call (frames_of frames) }
+{
+    let By { who, epoch } = by;
+    match call {
         Call::Pin { range, .. } => pin(object, alloc, who, epoch, range, frames),
         Call::Borrow { page, .. } => borrow(object, alloc, who, epoch, page, frames),
         Call::Vacate { .. } => vacate(object, alloc, who, epoch, frames),
-        _ => unreachable!(),
+        Call::Hint { range, kind } => {
+            put_down(alloc, frames);
+            hint(object, alloc, who, epoch, range, kind)
+        }
+        Call::Unpin { range } => {
+            put_down(alloc, frames);
+            unpin(object, alloc, who, epoch, range)
+        }
+        Call::Evict { limit, max } => {
+            put_down(alloc, frames);
+            evict(object, alloc, who, epoch, limit, max)
+        }
+        other => {
+            put_down(alloc, frames);
+            fit(object, alloc, by, other)
+        }
     }
 }
 
-/// Does a call that takes no frames.
-fn act(object: &mut Object, alloc: Global, by: By, call: Call) -> Step
-    requires alone { takes_frames call ≡ false }
-    requires proper { IsTrue (replies.proper object.old.birth object.old.journal by.who call) }
+/// Does a call of `up_size`.
+fn fit(object: &mut Object, alloc: Global, by: By, call: Call) -> Step
+    requires group { is_of_size call ≡ true }
     ensures { DoesCall object.old object.new result by.who by.epoch call [] }
 {
     let By { who, epoch } = by;
     match call {
-        Call::Fail { range, code } => fail(object, alloc, who, epoch, range, code),
-        Call::Detach => detach(object, alloc, who, epoch),
-        Call::Packet => packet(object, alloc, who, epoch),
-        Call::Leave { role } => leave(object, alloc, who, epoch, role),
-        Call::Tell(told) => tell(object, alloc, who, epoch, told),
-        other => manage(object, alloc, by, other),
-    }
-}
-
-/// Does a call on pages that takes no frames.
-fn manage(object: &mut Object, alloc: Global, by: By, call: Call) -> Step
-    requires manages { (is_writeback call || is_paging call) ≡ true }
-    requires proper { IsTrue (replies.proper object.old.birth object.old.journal by.who call) }
-    ensures { DoesCall object.old object.new result by.who by.epoch call [] }
-{
-    let By { who, epoch } = by;
-    match call {
-        Call::Begin { range, zero } => begin(object, alloc, who, epoch, range, zero),
-        Call::End { range, of } => end(object, alloc, who, epoch, range, of),
-        Call::Query { range, room } => query(object, alloc, who, epoch, range, room),
-        Call::Stats { reset } => stats(object, alloc, who, epoch, reset),
-        other => reclaim(object, alloc, by, other),
-    }
-}
-
-/// Does a call that reclaims pages, or says which are to be, or sets them to zeros, and takes no frames.
-fn reclaim(object: &mut Object, alloc: Global, by: By, call: Call) -> Step
-    requires pages { is_paging call ≡ true }
-    ensures { DoesCall object.old object.new result by.who by.epoch call [] }
-{
-    let By { who, epoch } = by;
-    match call {
-        Call::Hint { range, kind } => hint(object, alloc, who, epoch, range, kind),
-        Call::Unpin { range } => unpin(object, alloc, who, epoch, range),
-        Call::Evict { limit, max } => evict(object, alloc, who, epoch, limit, max),
         Call::Resize { pages } => resize(object, alloc, who, epoch, pages),
         Call::Zero { range } => zero(object, alloc, who, epoch, range),
         _ => unreachable!(),

@@ -1,4 +1,4 @@
-ghost use Rattle.std.specs.Prelude.{◌≡◌, ◌<◌, ◌≤◌, Some, true, length, slice_get, slice_set, OnOk, OnErr};
+ghost use Rattle.std.specs.Prelude.{◌≡◌, ◌+◌, ◌<◌, ◌≤◌, Some, true, length, slice_get, slice_set, OnOk, OnErr};
 ghost use Rattle.up_outside.specs.Cause.{HasCause};
 ghost use Rattle.up_disk.specs.Left.{IsOldOrWritten, OnlyLeaves, AddsNone, AddsWritten};
 
@@ -24,6 +24,9 @@ pub trait Disk {
     /// How often a call failed. It never falls.
     ghost faults: { Self → ℕ };
 
+    /// How often it was called, as far as the disk counts that.
+    ghost calls: { Self → ℕ };
+
     /// A time, where the disk tells what a stop leaves. It never falls.
     ghost time: { Self → ℕ };
 
@@ -38,6 +41,7 @@ pub trait Disk {
         ensures same { tells ≡ true → blocks self.new ≡ blocks self.old }
         ensures count { count self.new ≡ count self.old }
         ensures cause { HasCause (faults self.old) (faults self.new) result }
+        ensures once { calls self.new ≤ calls self.old + 1 }
         ensures later { lasts ≡ true → time self.old ≤ time self.new }
         ensures left { lasts ≡ true → AddsNone (leaves self.old) (leaves self.new) (time self.old) };
 
@@ -49,6 +53,7 @@ pub trait Disk {
         ensures failed { OnErr result (tells ≡ true → IsOldOrWritten (blocks self.old) (blocks self.new) number bytes.now) }
         ensures count { count self.new ≡ count self.old }
         ensures cause { HasCause (faults self.old) (faults self.new) result }
+        ensures once { calls self.new ≤ calls self.old + 1 }
         ensures later { lasts ≡ true → time self.old ≤ time self.new }
         ensures left { lasts ≡ true → AddsWritten (leaves self.old) (leaves self.new) (time self.old) number bytes.now };
 
@@ -58,6 +63,7 @@ pub trait Disk {
         ensures same { tells ≡ true → blocks self.new ≡ blocks self.old }
         ensures count { count self.new ≡ count self.old }
         ensures cause { HasCause (faults self.old) (faults self.new) result }
+        ensures once { calls self.new ≤ calls self.old + 1 }
         ensures later { lasts ≡ true → time self.old ≤ time self.new }
         ensures left { lasts ≡ true → AddsNone (leaves self.old) (leaves self.new) (time self.old) };
 

@@ -72,6 +72,8 @@ impl Disk for FileDisk {
 
     ghost faults = { λ disk. disk.faults };
 
+    ghost calls = { λ _. 0 };
+
     ghost time = { λ _. 0 };
 
     ghost leaves = { λ disk _ image. length image ≡ disk.count };

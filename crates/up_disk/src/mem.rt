@@ -128,6 +128,8 @@ impl Disk for MemDisk {
 
     ghost faults = { λ disk. disk.faults };
 
+    ghost calls = { λ disk. disk.calls };
+
     ghost time = { λ disk. length disk.done };
 
     ghost leaves = { λ disk. left_on disk };

@@ -55,6 +55,8 @@ impl Disk for PlainDisk {
 
     ghost faults = { λ _. 0 };
 
+    ghost calls = { λ _. 0 };
+
     ghost time = { λ _. 0 };
 
     ghost leaves = { λ disk _ image. image ≡ disk };

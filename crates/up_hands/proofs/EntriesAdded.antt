@@ -12,7 +12,7 @@ use Rattle.up_model.specs.declared.entry.Entry.{Entry}
 use Rattle.up_object.specs.Parts.{BankPair}
 use Rattle.up_object.specs.Whole.{Whole, life_of, is_framed_by, held}
 use Rattle.up_worker.specs.Courses.{Entered}
-use Rattle.up_hands.specs.Handed.{lives_from, lives_of, held_in, births_in, new_life, AllLegal}
+use Rattle.up_steps.specs.Handed.{lives_from, lives_of, held_in, births_in, new_life, AllLegal}
 use Rattle.up_hands.specs.Entering.{enter_at, enter, enter_all}
 use Rattle.up_hands.specs.Machined.{AllOf}
 

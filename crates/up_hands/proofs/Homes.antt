@@ -7,7 +7,7 @@ use Rattle.up_pages.specs.Frames.{count_kind}
 use Rattle.up_evictor.specs.declared.levels.Levels.{Levels}
 use Rattle.up_object.specs.Parts.{bank_of, is_loan}
 use Rattle.up_object.specs.Change.{AllAre}
-use Rattle.up_hands.specs.Handed.{InHand}
+use Rattle.up_steps.specs.Handed.{InHand}
 use Rattle.up_hands.specs.Keeping.{at_home, kind_lent}
 use Rattle.up_hands.specs.Machined.{Machined, owned}
 use Rattle.up_banks.specs.Pools.{Pooled, banks_of, stored, pool_without}

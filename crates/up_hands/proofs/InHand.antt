@@ -11,10 +11,11 @@ use Rattle.up_object.specs.declared.step.FramesIn.TheVariants.{NoneYet, Given, S
 use Rattle.up_object.specs.Parts.{BankPair, bank_of}
 use Rattle.up_object.specs.Change.{AllAre}
 use Rattle.up_object.specs.OneCall.{brought_count, brought_of, frames_of}
-use Rattle.up_core.specs.Requests.{brought_in, kind_taken, Agrees}
+use Rattle.up_core.specs.Requests.{kind_taken, Agrees}
+use Rattle.up_model.specs.Bringing.{brought_in}
 use Rattle.up_worker.specs.Calls.{borrows}
-use Rattle.up_hands.specs.Handed.{InHand, empty_hand}
-use Rattle.up_hands.specs.Carried.{brings_as}
+use Rattle.up_steps.specs.Handed.{InHand, empty_hand}
+use Rattle.up_steps.specs.Carried.{brings_as}
 use Rattle.up_hands.specs.Keeping.{kind_lent}
 
 is_some : (n : ℕ) → (suc n == 0) ≡ false

@@ -5,7 +5,7 @@ use Rattle.std.proofs.lemmas.List.{map-append}
 use Rattle.up_model.specs.Legal.{Life}
 use Rattle.up_model.specs.declared.entry.Birth.{Birth}
 use Rattle.up_object.specs.Whole.{Whole, life_of}
-use Rattle.up_hands.specs.Handed.{new_life}
+use Rattle.up_steps.specs.Handed.{new_life}
 
 lives_many : (wholes : List Whole) → length (map life_of wholes) ≡ length wholes
 lives_many [] = refl

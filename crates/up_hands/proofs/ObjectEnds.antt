@@ -3,7 +3,7 @@ use Rattle.std.proofs.Common.{◌≡◌, List, [], ◌∷◌, ◌++◌, map, rev
 use Rattle.std.proofs.lemmas.List.{reverse-append}
 use Rattle.up_model.specs.declared.entry.Entry.{Entry}
 use Rattle.up_object.specs.Whole.{Whole, life_of}
-use Rattle.up_hands.specs.Handed.{ends_of}
+use Rattle.up_steps.specs.Handed.{ends_of}
 
 ends_split : (wholes : List Whole) (last : Whole) (done : List (List Entry)) → ends_of (map life_of (wholes ++ last ∷ [])) ++ done ≡ ends_of (map life_of wholes) ++ (reverse last.journal ∷ done)
 ends_split [] last done = refl

@@ -4,7 +4,7 @@ use Rattle.up_model.specs.Legal.{Life, Legal}
 use Rattle.up_model.specs.declared.entry.Birth.{Birth}
 use Rattle.up_worker.specs.Courses.{Entered}
 use Rattle.up_worker.specs.Thread.{of_object}
-use Rattle.up_hands.specs.Handed.{lives_from, lives_of, new_life, AllLegal}
+use Rattle.up_steps.specs.Handed.{lives_from, lives_of, new_life, AllLegal}
 
 none_from : (n : ℕ) (births : List Birth) → lives_from n births [] ≡ map new_life births
 none_from n [] = refl

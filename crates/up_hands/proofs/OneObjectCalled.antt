@@ -7,7 +7,7 @@ use Rattle.up_model.specs.Reply as replies
 use Rattle.up_model.specs.declared.entry.Call.{Call}
 use Rattle.up_model.specs.declared.entry.Reply.{Reply}
 use Rattle.up_object.specs.Whole.{Whole, life_of, after, held}
-use Rattle.up_hands.specs.Handed.{held_in}
+use Rattle.up_steps.specs.Handed.{held_in}
 use Rattle.up_hands.specs.Entering.{enter_at}
 use Rattle.up_hands.specs.Machined.{Acted}
 use Rattle.up_banks.specs.Pools.{Pooled}

@@ -23,8 +23,8 @@ use Rattle.up_worker.specs.declared.wish.Heard.{Heard}
 use Rattle.up_worker.specs.declared.wish.Heard.TheVariants as heard
 use Rattle.up_worker.specs.declared.wish.Wish.{Wish}
 use Rattle.up_worker.specs.declared.wish.Wish.TheVariants as wishes
-use Rattle.up_hands.specs.Handed.{InHand, empty_hand, Handed, lives_of, held_in, home, loans}
-use Rattle.up_hands.specs.Carried.{hand_after, kept_after, ages_after, CarriedOut}
+use Rattle.up_steps.specs.Handed.{InHand, empty_hand, Handed, lives_of, held_in, home, loans}
+use Rattle.up_steps.specs.Carried.{hand_after, kept_after, ages_after, CarriedOut}
 use Rattle.up_hands.specs.Entering.{enter, enter_all}
 use Rattle.up_hands.specs.Keeping.{at_home, Taken, Eased}
 use Rattle.up_hands.specs.Machined.{Machined}
@@ -186,7 +186,7 @@ carried_loan births old new who answer g stood t =
     record {
       made = [];
       is = t.now ∙ rw (stood, t.told) refl;
-      carries = record { brought = t.brought; told = t.told; own = tt };
+      carries = record { brought = t.brought; told = t.told; none = refl };
       exact = (t.brought, t.told, refl, t.is ∙ ap (λ (n : ℕ). cond (nat_le 1 n) (Frames 1) Scanned) (sym (loans_are births old g stood)));
       epoch = tt;
     }

@@ -15,8 +15,8 @@ use Rattle.up_worker.specs.Courses.{Entered, OwnEvicts}
 use Rattle.up_worker.specs.Thread.{reclaims_of}
 use Rattle.up_worker.specs.declared.wish.Heard.{Heard}
 use Rattle.up_worker.specs.declared.wish.Heard.TheVariants as heard
-use Rattle.up_hands.specs.Handed.{Handed, held_in}
-use Rattle.up_hands.specs.Carried.{AllAt}
+use Rattle.up_steps.specs.Handed.{Handed, held_in}
+use Rattle.up_steps.specs.Steps.{AllAt}
 use Rattle.up_hands.specs.Entering.{enter_all}
 
 -- how many frames each list has

@@ -1,5 +1,3 @@
-pub mod Handed
-pub mod Carried
 pub mod Entering
 pub mod Machines
 pub mod Machined

@@ -13,8 +13,8 @@ use Rattle.up_evictor.specs.declared.herd.Reclaim.{Reclaim}
 use Rattle.up_evictor.specs.declared.levels.Level.{Level}
 use Rattle.up_worker.specs.Courses.{Entered, OwnEvicts}
 use Rattle.up_worker.specs.Thread.{reclaims_of}
-use Rattle.up_hands.specs.Handed.{held_in, births_in}
-use Rattle.up_hands.specs.Carried.{AllAt}
+use Rattle.up_steps.specs.Handed.{held_in, births_in}
+use Rattle.up_steps.specs.Steps.{AllAt}
 use Rattle.up_hands.specs.Entering.{enter, enter_all}
 use Rattle.up_banks.specs.Pools.{Pooled, banks_of, stored}
 

@@ -2,7 +2,7 @@
 use Rattle.std.specs.Prelude.{◌≡◌, ◌<◌, ◌^◌, true, length, map}
 use Rattle.up_bank.specs.declared.kind.FrameKind.TheVariants.{Ordinary, Loaned}
 use Rattle.up_object.specs.Whole.{life_of}
-use Rattle.up_hands.specs.Handed.{AllLegal}
+use Rattle.up_steps.specs.Handed.{AllLegal}
 use Rattle.up_hands.specs.Machined.{AllOf}
 use Rattle.up_banks.specs.Pools.{banks_of}
 use Rattle.up_hands.specs.declared.machine.Machine.TheInside.{Inside}

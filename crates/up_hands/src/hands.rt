@@ -1,4 +1,4 @@
-ghost use Rattle.std.specs.Prelude.{◌≡◌, ◌+◌, ◌<◌, ◌≤◌, ◌^◌, true, length, map, min, replicate, slice_index, slice_set, IfOk, IfSome, OnOk, OnErr, None};
+ghost use Rattle.std.specs.Prelude.{◌≡◌, ◌+◌, ◌<◌, ◌≤◌, ◌^◌, true, length, map, min, replicate, slice_index, slice_set, IfOk, OnOk, OnErr, None};
 ghost use Rattle.std.specs.List.{list_all};
 ghost use Rattle.up_bank.specs.Standing.{BankId};
 ghost use Rattle.up_bank.specs.declared.kind.FrameKind.TheVariants.{Ordinary as OrdinaryKind, Loaned as LoanedKind};
@@ -6,8 +6,8 @@ ghost use Rattle.up_clock.specs.Known.{last_age};
 ghost use Rattle.up_worker.specs.declared.wish.Heard.TheVariants.{Done as DoneHeard};
 ghost use Rattle.up_object.specs.Parts.{is_loan};
 ghost use Rattle.up_worker.specs.declared.wish.Wish.TheVariants as wishes;
-ghost use Rattle.up_hands.specs.Handed.{empty_hand, births_in, new_life, ends_of, is_fair, AllLegal};
-ghost use Rattle.up_hands.specs.Carried.{is_done_here, object_of, hand_for, hand_after, IsProper, AsksForSome, DoesWish, SameShape};
+ghost use Rattle.up_steps.specs.Handed.{empty_hand, new_life, ends_of, is_fair, AllLegal};
+ghost use Rattle.up_steps.specs.Carried.{is_done_here, object_of, hand_for, hand_after, IsProper, AsksForSome, DoesWish, SameShape};
 ghost use Rattle.up_hands.specs.Keeping.{AllKept, Eased, Taken, at_home, counts_of};
 
 use crate::machine::Machine;
@@ -39,7 +39,7 @@ pub struct Hands {
 
 impl Model for Hands {
     ghost use Rattle.up_object.specs.OneCall.{brought_of};
-    ghost use Rattle.up_hands.specs.Handed.{Handed};
+    ghost use Rattle.up_steps.specs.Handed.{Handed};
     ghost use Rattle.up_hands.specs.Keeping.{counts_of};
     ghost use Rattle.up_hands.specs.Standing.{HandsStand};
 
@@ -112,31 +112,6 @@ impl Hands {
         machine.bring_home(hand.into_frames(alloc));
         bring_lists(&mut machine, kept);
         machine.end(alloc)
-    }
-
-    /// Carries out an actor's wish, and says what the actor is to hear. What was brought for its next call stays in hand until that
-    /// call. After want of memory the objects can still be ended, and no more is to be asked.
-    pub fn carry_out(&mut self, alloc: Global, who: u32, wish: Wish) -> Result<Heard, Memory>
-        requires known { who < length self.old.kept }
-        requires done_here { is_done_here wish ≡ true }
-        requires object { IfSome (object_of wish) (λ object. object < length self.old.lives) }
-        requires proper { IsProper self.old.lives who wish }
-        requires hand { self.old.hand ≡ hand_for wish }
-        requires some { AsksForSome wish }
-        ensures done { DoesWish self.old self.new who wish result }
-        ensures hand { IfOk result (λ heard. self.new.hand ≡ hand_after wish heard) }
-        ensures legal { AllLegal self.new.lives }
-        ensures births { births_in self.new.lives ≡ births_in self.old.lives }
-        ensures objects { length self.new.lives ≡ length self.old.lives }
-        ensures actors { length self.new.kept ≡ length self.old.kept }
-    {
-        let heard = match wish {
-            Wish::Act { object, call } => self.act(alloc, who, object, call),
-            Wish::Resize { object, pages } => self.resize(alloc, who, object, pages),
-            other => self.serve(alloc, who, other),
-        };
-        self.machine.is_legal();
-        heard
     }
 
     /// Carries out a wish that is no call.
@@ -300,6 +275,20 @@ impl Hands {
         ensures { self.new ≡ record self.old { ages = min (self.old.ages + 1) last_age } }
     {
         self.machine.age();
+    }
+}
+
+impl up_steps::Hands for Hands {
+    ghost shown = { λ hands. hands };
+
+    fn carry_out(&mut self, alloc: Global, who: u32, wish: Wish) -> Result<Heard, Memory> {
+        let heard = match wish {
+            Wish::Act { object, call } => self.act(alloc, who, object, call),
+            Wish::Resize { object, pages } => self.resize(alloc, who, object, pages),
+            other => self.serve(alloc, who, other),
+        };
+        self.machine.is_legal();
+        heard
     }
 }
 

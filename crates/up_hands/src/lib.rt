@@ -1,5 +1,5 @@
 //! Hands: they carry out what actors wish, on objects, two banks of frames and a clock, on one thread.
-//! Used through `up_stage`, by `cases/step`.
+//! Used by `pagerd`, by `cases/step`.
 #![tactic(auto)]
 
 mod hands;

@@ -13,7 +13,7 @@ ghost use Rattle.up_object.specs.Change.{AllAre, AllOwn};
 ghost use Rattle.up_object.specs.OneCall.{brought_of, frames_of};
 ghost use Rattle.up_object.specs.Whole.{after, held, life_of};
 ghost use Rattle.up_core.specs.Requests.{kind_taken, Agrees};
-ghost use Rattle.up_hands.specs.Handed.{new_life, ends_of, is_fair, AllLegal};
+ghost use Rattle.up_steps.specs.Handed.{new_life, ends_of, is_fair, AllLegal};
 ghost use Rattle.up_hands.specs.Machined.{Machined, owned, AllOf, Acted, Stays};
 ghost use Rattle.up_banks.specs.Pools.{banks_of, stored, without, pool_without, pool_with};
 

@@ -6,6 +6,7 @@ use Rattle.std.proofs.lemmas.Bool.{false≢true}
 use Rattle.std.proofs.lemmas.Bool.Decides.{nat_tests}
 use Rattle.up_num.specs.Span.{Span, covers}
 use Rattle.up_num.specs.declared.pages.PageNo.{PageNo}
+use Rattle.up_model.specs.Answered.{is_begin}
 use Rattle.up_model.specs.Attempts.{page_of, accepts}
 use Rattle.up_model.specs.Value.{there, settled, byte_or_zero}
 use Rattle.up_model.specs.declared.entry.Birth.{Birth}
@@ -19,7 +20,7 @@ use Rattle.up_claims.specs.Claimed.{has_copied}
 use Rattle.up_claims.specs.declared.claim.Claim.{Claim}
 use Rattle.up_claims.specs.declared.claim.Claim.TheVariants.{Back}
 use Rattle.up_coherence.specs.Coherent.{Firm, Coherent}
-use Rattle.up_coherence.specs.Durable.{is_begin, tour_at, stores, flushes, rests_within, reached, durable}
+use Rattle.up_coherence.specs.Durable.{tour_at, stores, flushes, rests_within, reached, durable}
 use Rattle.up_coherence.specs.Durable.{Dated, Lasting}
 use Rattle.up_coherence.specs.StepPremises.{is_quiet, made, CopiesBytes, StoresHand, StoresElsewhere, SameHands}
 use Rattle.up_coherence.specs.Histories.{IsBlock}

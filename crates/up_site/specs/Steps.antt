@@ -1,5 +1,5 @@
 -- What a step makes of a site that has a disk.
-use Rattle.std.specs.Prelude.{ℕ, Bool, true, false, Option, Some, None, List, []}
+use Rattle.std.specs.Prelude.{ℕ, ◌+◌, ◌≤◌, Bool, true, false, Option, Some, None, List, []}
 use Rattle.up_claims.specs.Sited.{Deed}
 use Rattle.up_claims.specs.declared.step.SiteReply.{SiteReply}
 use Rattle.up_claims.specs.declared.step.SiteStep.{SiteStep}
@@ -25,6 +25,11 @@ abbrev pub TouchesDisk : {D : Type 0} → (D → ℕ) → Deed → SiteReply →
     Type 0
 TouchesDisk faults deed answer (Some old) (Some new) = Touches faults deed answer old.disk new.disk
 TouchesDisk faults deed answer _ _ = Unit {0}
+
+-- the disk was called once at most, as far as it counts that
+abbrev pub CallsOnce : {D : Type 0} → (D → ℕ) → Option (Sited D) → Option (Sited D) → Type 0
+CallsOnce calls (Some old) (Some new) = calls new.disk ≤ calls old.disk + 1
+CallsOnce calls _ _ = Unit {0}
 
 -- what a stop may leave since a step began that touched the disk
 abbrev pub StopsWithin : {D : Type 0} → DiskTells D → Deed → Option (Sited D) → Option (Sited D) → Type 0

@@ -1,5 +1,5 @@
 //! The steps of an actor that has a claim, and the one call that makes each step.
-ghost use Rattle.std.specs.Prelude.{◌≡◌, ◌+◌, ◌<◌, true, Some, None};
+ghost use Rattle.std.specs.Prelude.{◌≡◌, ◌+◌, ◌≤◌, ◌<◌, true, Some, None};
 ghost use Rattle.up_num.specs.declared.answers.Code.TheVariants.{Io as IoCode};
 ghost use Rattle.up_bank.specs.declared.kind.FrameKind.TheVariants.{Ordinary as OrdinaryKind};
 ghost use Rattle.up_model.specs.Reply.{brings};
@@ -43,6 +43,7 @@ impl<D: Disk> Imaged<D> {
             self.old self.new result by.who by.epoch
             (Makes (calls.Supply (one_page page.0) (bytes_held (stage_at self.old.tours by.who))
             (brought_of frames))) (frames_of frames) }
+        ensures once { D.calls self.new.disk ≤ D.calls self.old.disk + 1 }
     {
         self.stands_within(by.who, page);
         let stepped = self.supply_page(alloc, by, page, frames)?;
@@ -58,6 +59,7 @@ impl<D: Disk> Imaged<D> {
         ensures bare { BareAnswers (telling D.tells D.count D.blocks D.faults D.lasts D.time D.leaves)
             self.old self.new result by.who by.epoch (Makes (calls.Fail
             (one_page page.0) IoCode)) }
+        ensures once { D.calls self.new.disk ≤ D.calls self.old.disk + 1 }
     {
         self.stands_within(by.who, page);
         match self.fail_page(alloc, by, page) {
@@ -76,6 +78,7 @@ impl<D: Disk> Imaged<D> {
             (delivers (brought_of frames) (bytes_held (stage_at self.old.tours by.who)) (claim_of
             self.old.whole.journal by.who))
             (frames_of frames) }
+        ensures once { D.calls self.new.disk ≤ D.calls self.old.disk + 1 }
     {
         match self.progress(by.who) {
             Progress::Read(page) => self.supply_read(alloc, by, page, frames),
@@ -94,6 +97,7 @@ impl<D: Disk> Imaged<D> {
         ensures bare { BareAnswers (telling D.tells D.count D.blocks D.faults D.lasts D.time D.leaves)
             self.old self.new result by.who by.epoch
             (copies (claim_of self.old.whole.journal by.who)) }
+        ensures once { D.calls self.new.disk ≤ D.calls self.old.disk + 1 }
     {
         match self.progress(by.who) {
             Progress::Begun { range, number } => match self.copy_range(alloc, by, range, number) {
@@ -119,6 +123,7 @@ impl<D: Disk> Imaged<D> {
         ensures bare { BareAnswers (telling D.tells D.count D.blocks D.faults D.lasts D.time D.leaves)
             self.old self.new result by.who by.epoch (Tells (Storing
             (page_number (range.first + done)))) }
+        ensures once { D.calls self.new.disk ≤ D.calls self.old.disk + 1 }
     {
         let detached = self.is_detached();
         match self.store_page(alloc, by, range, number, done) {
@@ -136,6 +141,7 @@ impl<D: Disk> Imaged<D> {
         ensures bare { BareAnswers (telling D.tells D.count D.blocks D.faults D.lasts D.time D.leaves)
             self.old self.new result by.who by.epoch
             (stores (claim_of self.old.whole.journal by.who)) }
+        ensures once { D.calls self.new.disk ≤ D.calls self.old.disk + 1 }
     {
         match self.progress(by.who) {
             Progress::Copied {
@@ -153,6 +159,7 @@ impl<D: Disk> Imaged<D> {
         ensures bare { BareAnswers (telling D.tells D.count D.blocks D.faults D.lasts D.time D.leaves)
             self.old self.new result by.who by.epoch
             (finishes (claim_of self.old.whole.journal by.who)) }
+        ensures once { D.calls self.new.disk ≤ D.calls self.old.disk + 1 }
     {
         match self.progress(by.who) {
             Progress::Copied {
@@ -171,6 +178,7 @@ impl<D: Disk> Imaged<D> {
     pub(crate) fn sync(&mut self, alloc: Global, by: By) -> BareStep
         ensures bare { BareAnswers (telling D.tells D.count D.blocks D.faults D.lasts D.time D.leaves)
             self.old self.new result by.who by.epoch (Tells Flushing) }
+        ensures once { D.calls self.new.disk ≤ D.calls self.old.disk + 1 }
     {
         match self.flush(alloc, by) {
             Ok((ok, stepped)) => Ok((SiteReply::Flushed { ok }, spend_told(alloc, stepped))),

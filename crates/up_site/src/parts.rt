@@ -60,6 +60,7 @@ pub(crate) fn read_page<D: Disk>(
     ensures untouched { OnErr result (disk.new ≡ disk.old) }
     ensures left { LeavesNoMore (telling D.tells D.count D.blocks D.faults D.lasts D.time D.leaves) disk.old
         disk.new }
+    ensures once { D.calls disk.new ≤ D.calls disk.old + 1 }
 {
     let mut block = vec![in alloc; 0; 4096]?;
     match disk.read_block(page.0, block.as_mut_slice()) {
@@ -91,6 +92,7 @@ pub(crate) fn write_page<D: Disk>(disk: &mut D, number: u32, bytes: &[u8]) -> bo
     ensures later { D.faults disk.old ≤ D.faults disk.new }
     ensures left { LeavesWritten (telling D.tells D.count D.blocks D.faults D.lasts D.time D.leaves) disk.old
         disk.new number bytes.now }
+    ensures once { D.calls disk.new ≤ D.calls disk.old + 1 }
 {
     disk.write_block(number, bytes).is_ok()
 }
@@ -137,6 +139,7 @@ pub(crate) fn write_next<D: Disk>(
     ensures left { LeavesWritten (telling D.tells D.count D.blocks D.faults D.lasts D.time D.leaves) disk.old
         disk.new
         (range.first + done) (part_of (bytes_held (stage_at tours.now.items who)) done) }
+    ensures once { D.calls disk.new ≤ D.calls disk.old + 1 }
 {
     let bytes = copy_of(tours, who, range, number, done);
     write_page(disk, range.first + done, part_of(bytes, done))
@@ -152,6 +155,7 @@ pub(crate) fn sync_disk<D: Disk>(disk: &mut D) -> bool
         disk.new }
     ensures kept { result ≡ true → LeavesBlocks (telling D.tells D.count D.blocks D.faults D.lasts D.time
         D.leaves) disk.new }
+    ensures once { D.calls disk.new ≤ D.calls disk.old + 1 }
 {
     disk.sync().is_ok()
 }

@@ -1,5 +1,5 @@
 //! The choice of what is due, and the steps that it leads to.
-ghost use Rattle.std.specs.Prelude.{◌≡◌, ◌+◌, ◌<◌, ◌^◌, true, None};
+ghost use Rattle.std.specs.Prelude.{◌≡◌, ◌+◌, ◌≤◌, ◌<◌, ◌^◌, true, None};
 ghost use Rattle.up_num.specs.Pages.{page_number};
 ghost use Rattle.up_num.specs.declared.answers.Code.TheVariants.{NoSpace as NoSpaceCode};
 ghost use Rattle.up_bank.specs.declared.kind.FrameKind.TheVariants.{Ordinary as OrdinaryKind};
@@ -61,6 +61,7 @@ impl<D: Disk> Imaged<D> {
     fn take_next(&mut self, alloc: Global, by: By) -> BareStep
         ensures bare { BareAnswers (telling D.tells D.count D.blocks D.faults D.lasts D.time D.leaves)
             self.old self.new result by.who by.epoch (Makes calls.Packet) }
+        ensures once { D.calls self.new.disk ≤ D.calls self.old.disk + 1 }
     {
         match self.take_packet(alloc, by) {
             Ok(stepped) => Ok((SiteReply::Taken, spend(alloc, stepped))),
@@ -73,6 +74,7 @@ impl<D: Disk> Imaged<D> {
         ensures bare { BareAnswers (telling D.tells D.count D.blocks D.faults D.lasts D.time D.leaves)
             self.old self.new result by.who by.epoch (Tells (Fetching
             (page_number page))) }
+        ensures once { D.calls self.new.disk ≤ D.calls self.old.disk + 1 }
     {
         let page = PageNo(page);
         match self.fetch(alloc, by, page) {
@@ -90,6 +92,7 @@ impl<D: Disk> Imaged<D> {
         ensures bare { BareAnswers (telling D.tells D.count D.blocks D.faults D.lasts D.time D.leaves)
             self.old self.new result by.who by.epoch
             (begins_at self.old.whole.birth self.old.whole.journal (among_of among.now) first) }
+        ensures once { D.calls self.new.disk ≤ D.calls self.old.disk + 1 }
     {
         self.stands_free(by.who);
         let zero = self.is_plain(first);
@@ -107,6 +110,7 @@ impl<D: Disk> Imaged<D> {
         ensures answers { Answers (telling D.tells D.count D.blocks D.faults D.lasts D.time D.leaves)
             self.old self.new result by.who by.epoch
             (Makes (calls.Dirty (one_page page) (brought_of frames))) (frames_of frames) }
+        ensures once { D.calls self.new.disk ≤ D.calls self.old.disk + 1 }
     {
         let stepped = self.grant(alloc, by, one_page(PageNo(page)), frames)?;
         let Stepped { reply, back } = stepped;
@@ -119,6 +123,7 @@ impl<D: Disk> Imaged<D> {
         ensures bare { BareAnswers (telling D.tells D.count D.blocks D.faults D.lasts D.time D.leaves)
             self.old self.new result by.who by.epoch
             (picked_pages self.old.whole.birth self.old.whole.journal write_first) }
+        ensures once { D.calls self.new.disk ≤ D.calls self.old.disk + 1 }
     {
         match self.next(write_first) {
             Next::Begin(first) => self.begin_at(alloc, by, &Among::All, first),
@@ -144,6 +149,7 @@ impl<D: Disk> Imaged<D> {
             self.old self.new result by.who by.epoch
             (picked self.old.whole.birth self.old.whole.journal (brought_of frames) write_first) (frames_of
             frames) }
+        ensures once { D.calls self.new.disk ≤ D.calls self.old.disk + 1 }
     {
         self.own_frames(&frames);
         if self.has_packet() {
@@ -177,6 +183,7 @@ impl<D: Disk> Imaged<D> {
         ensures bare { BareAnswers (telling D.tells D.count D.blocks D.faults D.lasts D.time D.leaves)
             self.old self.new result by.who by.epoch
             (picked_from self.old.whole.birth self.old.whole.journal set) }
+        ensures once { D.calls self.new.disk ≤ D.calls self.old.disk + 1 }
     {
         let among = Among::These(set);
         if let Some(first) = self.first(&among, Sought::Free) {
@@ -191,6 +198,7 @@ impl<D: Disk> Imaged<D> {
         ensures bare { BareAnswers (telling D.tells D.count D.blocks D.faults D.lasts D.time D.leaves)
             self.old self.new result by.who by.epoch
             (surveys self.old.whole.birth self.old.whole.journal) }
+        ensures once { D.calls self.new.disk ≤ D.calls self.old.disk + 1 }
     {
         let found = self.unclean_set(alloc)?;
         Ok((SiteReply::Surveyed(found), Woken::new(alloc)))
@@ -203,6 +211,7 @@ impl<D: Disk> Imaged<D> {
         ensures bare { BareAnswers (telling D.tells D.count D.blocks D.faults D.lasts D.time D.leaves)
             self.old self.new result by.who by.epoch (Makes (calls.Fail
             (one_page page.0) NoSpaceCode)) }
+        ensures once { D.calls self.new.disk ≤ D.calls self.old.disk + 1 }
     {
         self.stands_free(by.who);
         match self.deny(alloc, by, page) {
@@ -223,6 +232,7 @@ impl<D: Disk> Imaged<D> {
         ensures bare { BareAnswers (telling D.tells D.count D.blocks D.faults D.lasts D.time D.leaves)
             self.old self.new result by.who by.epoch
             (denies self.old.whole.birth self.old.whole.journal kind page.0) }
+        ensures once { D.calls self.new.disk ≤ D.calls self.old.disk + 1 }
     {
         if !self.is_denied(kind, page) {
             return Ok((SiteReply::Passed, Woken::new(alloc)));

@@ -1,5 +1,5 @@
 //! The one call that makes each step of the sample pager.
-ghost use Rattle.std.specs.Prelude.{◌≡◌, ◌+◌, true, is_some, IfOk, IfErr, OnErr};
+ghost use Rattle.std.specs.Prelude.{◌≡◌, ◌+◌, ◌≤◌, true, is_some, IfOk, IfErr, OnErr};
 ghost use Rattle.up_bank.specs.declared.kind.FrameKind.{FrameKind as FrameKindValue};
 ghost use Rattle.up_bank.specs.declared.kind.FrameKind.TheVariants.{Ordinary as OrdinaryKind};
 ghost use Rattle.up_pages.specs.Frames.{count_kind};
@@ -12,7 +12,7 @@ ghost use Rattle.up_claims.specs.Sited.{deed_of, fits};
 ghost use Rattle.up_site.specs.Stages.{stage_at};
 ghost use Rattle.up_site.specs.Places.{bytes_held};
 ghost use Rattle.up_site.specs.Hosted.{start_of};
-ghost use Rattle.up_site.specs.Steps.{tours_of, bytes_with, TouchesDisk, StopsWithin, BlocksAfter, is_bare};
+ghost use Rattle.up_site.specs.Steps.{tours_of, bytes_with, TouchesDisk, StopsWithin, BlocksAfter, CallsOnce, is_bare};
 ghost use Rattle.up_site.specs.Standing.{telling};
 ghost use Rattle.up_site.specs.Due.{Did, Answers, BareAnswers};
 
@@ -35,6 +35,7 @@ impl<D: Disk> Imaged<D> {
             self.old self.new result by.who by.epoch
             (deed_of self.old.whole.birth self.old.whole.journal by.who brought (bytes_held (stage_at
             self.old.tours by.who)) step) }
+        ensures once { D.calls self.new.disk ≤ D.calls self.old.disk + 1 }
     {
         match step {
             SiteStep::Survey => self.survey(alloc, by),
@@ -55,6 +56,7 @@ impl<D: Disk> Imaged<D> {
             self.old self.new result by.who by.epoch
             (deed_of self.old.whole.birth self.old.whole.journal by.who (brought_of frames)
             (bytes_held (stage_at self.old.tours by.who)) step) (frames_of frames) }
+        ensures once { D.calls self.new.disk ≤ D.calls self.old.disk + 1 }
     {
         self.own_frames(&frames);
         let brought = frames.brought();
@@ -100,6 +102,7 @@ impl<D: Disk> Site<D> {
             count_kind kind r.2.items + held self.new.whole.birth self.new.whole.journal kind
             ≡ count_kind kind (frames_of frames) + held self.old.whole.birth self.old.whole.journal kind) }
         ensures own { IfOk result (λ r. AllOwn self.old.whole.banks r.2.items) }
+        ensures once { CallsOnce D.calls self.old.image self.new.image }
         ensures start { start_of self.new.image ≡ start_of self.old.image }
         ensures same { OnErr result (self.new.whole ≡ self.old.whole) }
         ensures kept { OnErr result (tours_of self.new.image ≡ tours_of self.old.image) }

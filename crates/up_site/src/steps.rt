@@ -1,5 +1,5 @@
 //! The steps of the sample pager, one by one.
-ghost use Rattle.std.specs.Prelude.{◌≡◌, ℕ, ◌+◌, ◌^◌, ◌<◌, Some, None, true, false, [], IfOk, OnErr};
+ghost use Rattle.std.specs.Prelude.{◌≡◌, ℕ, ◌+◌, ◌≤◌, ◌^◌, ◌<◌, Some, None, true, false, [], IfOk, OnErr};
 ghost use Rattle.up_num.specs.Span.{covers};
 ghost use Rattle.up_num.specs.declared.answers.AskKind.TheVariants.{Read as ReadAsk};
 ghost use Rattle.up_num.specs.declared.answers.Code.TheVariants.{Io as IoCode, NoSpace as NoSpaceCode};
@@ -61,6 +61,7 @@ impl<D: Disk> Imaged<D> {
         ensures within { LeavesDated (telling D.tells D.count D.blocks D.faults D.lasts D.time D.leaves)
             self.old.whole.birth
             self.old.whole.journal self.old.start self.new.disk (D.time self.old.disk) }
+        ensures once { D.calls self.new.disk ≤ D.calls self.old.disk + 1 }
     {
         if self.tours.reserve(1).is_err() {
             return Err((Memory {}, Frames::new(alloc)));
@@ -217,6 +218,7 @@ impl<D: Disk> Imaged<D> {
         ensures within { LeavesDated (telling D.tells D.count D.blocks D.faults D.lasts D.time D.leaves)
             self.old.whole.birth
             self.old.whole.journal self.old.start self.new.disk (D.time self.old.disk) }
+        ensures once { D.calls self.new.disk ≤ D.calls self.old.disk + 1 }
     {
         let ok = write_next(&mut self.disk, &self.tours, by.who, range, number, done);
         let page = PageNo(range.first + done);
@@ -260,6 +262,7 @@ impl<D: Disk> Imaged<D> {
         ensures within { LeavesDated (telling D.tells D.count D.blocks D.faults D.lasts D.time D.leaves)
             self.old.whole.birth
             self.old.whole.journal self.old.start self.new.disk (D.time self.old.disk) }
+        ensures once { D.calls self.new.disk ≤ D.calls self.old.disk + 1 }
     {
         let ok = sync_disk(&mut self.disk);
         let stepped = tell(

@@ -6,10 +6,9 @@ use Rattle.std.proofs.lemmas.List.{length-replicate, length-map, length-take-le}
 use Rattle.up_model.proofs.Bools.{and_left, and_right}
 use Rattle.up_model.specs.Legal.{Life}
 use Rattle.up_model.specs.declared.entry.Birth.{Birth}
-use Rattle.up_model.specs.declared.entry.Entry.{Entry}
 use Rattle.up_script.specs.declared.script.ObjectLine.{ObjectLine}
 use Rattle.up_stage.proofs.LineProgress.{take_more}
-use Rattle.up_hands.specs.Handed.{Handed, births_in, empty_hand, is_fair, lives_from, new_life, ends_of, AllLegal}
+use Rattle.up_steps.specs.Handed.{Handed, births_in, is_fair, lives_from, new_life, AllLegal}
 use Rattle.up_script.specs.Actions.{kind_of}
 use Rattle.up_script.specs.Sound.{is_sound_object, is_fair_object, is_sound, is_sound_line, are_sound_lines}
 use Rattle.up_script.specs.declared.script.ActorLine.{ActorLine}
@@ -23,7 +22,7 @@ use Rattle.up_stage.specs.Scheduled.{Scheduled, unborn_from}
 use Rattle.up_stage.specs.Ready.{ActorKeeps, ActorRests, AtRest}
 use Rattle.up_stage.specs.LeadsTo.{LeadsToRest}
 use Rattle.up_stage.specs.Lines.{Paced, GoesThrough, is_own_line}
-use Rattle.up_stage.specs.Played.{levels_in, births_of, setting_of, AreJournalsOf, is_played_line, is_bound_to, IsPlayable, are_able, IsNew}
+use Rattle.up_stage.specs.Played.{births_of, setting_of, new_hands, ArePlayed, is_played_line, is_bound_to, IsPlayable, are_able, IsNew}
 use Rattle.up_stage.specs.Calls.{suits_births}
 use Rattle.up_stage.proofs.ObjectJournals.{some_same}
 
@@ -90,11 +89,9 @@ born_keeps objects actors bound lives count who a is =
     })
 
 -- a scheduler of such parts is a new one
-pub new_is : (script : Script) (hands : Handed) (actors : List Acting) (done : List ℕ) (births : List Birth) (count : ℕ)
-    → hands ≡ record { lives = map new_life births; frames = script.frames; loan = script.loan; kept = replicate count 0; ages = 0; levels = levels_in script; hand = empty_hand }
-    → births ≡ births_of script.objects → actors ≡ unborn_from 0 script.actors → count ≡ length script.actors → done ≡ replicate (length script.actors) 0
-    → IsNew script (record { hands = hands; actors = actors; done = done })
-new_is script hands actors done births count held born unborn many begun = rw (held, born, many, unborn, begun) refl
+pub new_is : (script : Script) (scheduler : Scheduled) (hands : Handed) (actors : List Acting) (done : List ℕ) → scheduler ≡ record { hands = hands; actors = actors; done = done }
+    → hands ≡ new_hands script → actors ≡ unborn_from 0 script.actors → done ≡ replicate (length script.actors) 0 → IsNew script scheduler
+new_is script scheduler hands actors done is held unborn begun = rw (is, held, unborn, begun) refl
 
 pub new_rests : (script : Script) (scheduler : Scheduled) → IsPlayable script → IsNew script scheduler → AtRest scheduler
 new_rests script scheduler able is = subst AtRest (sym is) (record {
@@ -169,9 +166,9 @@ take_all [] = refl
 take_all (x ∷ xs) = ap (λ ys. x ∷ ys) (take_all xs)
 
 -- what was played
-pub journals_are : (script : Script) (first last : Scheduled) (journals : List (List Entry)) → StepsFollow → IsPlayable script → IsNew script first → GoesThrough script.lines (length script.lines) first last
-    → AllLegal last.hands.lives → journals ≡ ends_of last.hands.lives → AreJournalsOf script journals
-journals_are script first last journals follow able is went legal are =
+pub played_are : (script : Script) (first last : Scheduled) (handed : Handed) → StepsFollow → IsPlayable script → IsNew script first → GoesThrough script.lines (length script.lines) first last
+    → handed ≡ last.hands → ArePlayed script handed
+played_are script first last handed follow able is went same =
     let s = setting_of script in
     let births = births_of script.objects in
     let gone = went.went births s (own_all script script.lines able.lines) (new_stands script first is) (new_paced script first is) in
@@ -181,8 +178,8 @@ journals_are script first last journals follow able is went legal are =
       entered = entries history;
       moment = moment_in s history;
       steps = follow s (reverse script.lines) history gone.stands.stands.thread (subst (λ (xs : List Line). Ran s (reverse xs) history) (take_all script.lines) gone.ran);
-      legal = subst AllLegal lives legal;
-      are = are ∙ ap ends_of lives;
+      legal = subst AllLegal lives went.rest.keeps.legal;
+      are = ap (λ (h : Handed). h.lives) same ∙ lives;
     }
 
 fair_all : (objects : List ObjectLine) → list_all is_sound_object objects ≡ true → list_all is_fair (births_of objects) ≡ true

@@ -6,7 +6,7 @@ use Rattle.up_model.proofs.Bools.{nat_eq-same}
 use Rattle.up_model.specs.Legal.{Life, Legal}
 use Rattle.up_model.specs.declared.entry.Birth.{Birth}
 use Rattle.up_model.specs.declared.entry.Entry.{Entry}
-use Rattle.up_hands.specs.Handed.{lives_from, lives_of, births_in, AllLegal}
+use Rattle.up_steps.specs.Handed.{lives_from, lives_of, births_in, AllLegal}
 use Rattle.up_worker.specs.Courses.{Entered}
 use Rattle.up_worker.specs.Thread.{of_object}
 

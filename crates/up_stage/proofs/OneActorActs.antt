@@ -3,6 +3,7 @@ use Rattle.std.proofs.Common.{◌≡◌, ℕ, ◌<◌, ◌==◌, ◌++◌, ◌�
 use Rattle.std.proofs.lemmas.List.{length-set}
 use Rattle.std.proofs.lemmas.Option.{slice_get_within}
 use Rattle.up_evictor.specs.declared.levels.Levels.{Levels}
+use Rattle.up_model.specs.Answered.{may_park}
 use Rattle.up_model.proofs.Bools.{nat_eq-same, nat_eq_true}
 use Rattle.up_model.specs.Legal.{Life, Legal}
 use Rattle.up_model.specs.Reply.{reply}
@@ -14,12 +15,13 @@ use Rattle.up_model.specs.declared.entry.Call.{Call}
 use Rattle.up_model.specs.declared.entry.Call.TheVariants as calls
 use Rattle.up_model.specs.declared.entry.Reply.{Reply}
 use Rattle.up_model.specs.declared.entry.Reply.TheVariants as replies
-use Rattle.up_hands.specs.Handed.{Handed, lives_of, births_in, AllLegal}
-use Rattle.up_hands.specs.Carried.{CarriedOut}
-use Rattle.up_steps.specs.Asked.{parks as parks_reply, may_park}
+use Rattle.up_steps.specs.Handed.{Handed, lives_of, births_in, AllLegal}
+use Rattle.up_steps.specs.Carried.{CarriedOut}
+use Rattle.up_steps.specs.Asked.{parks as parks_reply}
 use Rattle.up_steps.specs.OneThread.{rests}
 use Rattle.up_worker.specs.Acting.{Acting, under_way, next_wish, next_acting}
-use Rattle.up_worker.specs.Calls.{bringing, borrows}
+use Rattle.up_worker.specs.Calls.{borrows}
+use Rattle.up_model.specs.Bringing.{bringing}
 use Rattle.up_worker.specs.Courses.{Entered, Carries, MakesOne, OwnEvicts, is_waiting, is_retry}
 use Rattle.up_worker.specs.Thread.{of_object, exact, DoneExactly}
 use Rattle.up_worker.specs.Wishes.{attempt}
@@ -92,7 +94,7 @@ others_all who other (wishes.Act object call) answer made apart one t =
 others_all who other (wishes.Resize object pages) answer made apart one t =
     rw one.is (others_keep other t one.entry (rw one.by apart), tt)
 others_all who other (wishes.Gather count) answer made apart some t = evicts_keep who other t made some.own
-others_all who other wishes.Loan answer made apart some t = evicts_keep who other t made some.own
+others_all who other wishes.Loan answer made apart none t = rw none.none tt
 others_all who other (wishes.Park object) answer made apart none t = rw none.none tt
 others_all who other wishes.Age answer made apart none t = rw none.none tt
 others_all who other wishes.Keep answer made apart none t = rw none.none tt
@@ -173,11 +175,11 @@ carried births made g a (wishes.Gather count) answer home loans levels objects l
     let is = gathered home objects count b _ exact.2.brings in
     subst (λ (h : Heard). Carried births made g a (wishes.Gather count) h) (sym exact.1)
     (record { after = after_gather a count b p is; holds = holds_on births made g legal (next_acting a (heard.Brought b)) (λ t. evicts_keep a.who a.who t made some.own) holds })
-carried births made g a wishes.Loan answer home loans levels objects legal p goes some exact few on fit holds =
+carried births made g a wishes.Loan answer home loans levels objects legal p goes none exact few on fit holds =
     let b = exact.0 in
     let is = gathered home objects 1 b _ exact.3 in
     subst (λ (h : Heard). Carried births made g a wishes.Loan h) (sym exact.1)
-    (record { after = after_loan a b p is; holds = holds_on births made g legal (next_acting a (heard.Brought b)) (λ t. evicts_keep a.who a.who t made some.own) holds })
+    (record { after = after_loan a b p is; holds = holds_on births made g legal (next_acting a (heard.Brought b)) (none_made made none.none a.who) holds })
 carried births made g a wishes.Age answer home loans levels objects legal p goes none exact few on fit holds =
     done_is births made g a wishes.Age answer legal (after_done a wishes.Age p refl (omega arith)) none.told (none_made made none.none a.who) holds
 carried births made g a wishes.Keep answer home loans levels objects legal p goes none exact few on fit holds =

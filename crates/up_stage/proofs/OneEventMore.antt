@@ -6,9 +6,8 @@ use Rattle.up_evictor.specs.declared.levels.Levels.{Levels}
 use Rattle.up_model.specs.declared.entry.Birth.{Birth}
 use Rattle.up_model.specs.declared.entry.Reply.{Reply}
 use Rattle.up_model.specs.declared.entry.Reply.TheVariants as replies
-use Rattle.up_hands.specs.Handed.{Handed, lives_of, home, loans, AllLegal}
-use Rattle.up_hands.specs.Carried.{CarriedOut, ages_after, kept_after}
-use Rattle.up_hands.specs.Carried as hands
+use Rattle.up_steps.specs.Handed.{Handed, lives_of, home, loans, AllLegal}
+use Rattle.up_steps.specs.Carried.{CarriedOut, ages_after, kept_after}
 use Rattle.up_script.specs.declared.script.Kind.{Kind}
 use Rattle.up_steps.specs.Asked.{parks as parks_reply}
 use Rattle.up_model.specs.Reply.{reply}
@@ -65,10 +64,6 @@ exact_same h h2 l l2 v v2 n n2 w w2 answer made before sh sl sv sn sw d =
     (subst (λ x. DoneExactly h l v x w2 answer made before) sn
     (subst (λ x. DoneExactly h l v n x answer made before) sw d))))
 
-epoch_same : (n m : ℕ) (made : List Entered) → n ≡ m → hands.AllAt n made → AllAt m made
-epoch_same n m [] is at = tt
-epoch_same n m (x ∷ xs) is at = (at.0 ∙ is, epoch_same n m xs is at.1)
-
 -- the actors after an event of one of them
 actors_more : (s : Setting) (who : ℕ) (event : Event) (history : List ActorEvent) (actors : List Acting) (new : Acting) → who < length actors → new ≡ (led (out_of s who history) event).acting
     → ((v : ℕ) (a : Acting) → slice_get actors v ≡ Some a → a ≡ (out_of s v history).acting) → (v : ℕ) (a : Acting) → slice_get (slice_set actors who new) v ≡ Some a → a ≡ (out_of s v (event_of who event ∷ history)).acting
@@ -108,7 +103,7 @@ stands_heard births s history old new who wish answer a st said is d parking act
         record {
           carries = subst (λ (w : Wish). Carries who w answer d.made) said d.carries;
           exact = exact_same _ _ _ _ _ _ _ _ wish (said_by s who history) answer d.made g (sym st.home) (sym kept) (sym st.levels) (sym st.objects) said d.exact;
-          epoch = epoch_same old.hands.ages m.ages d.made st.ages d.epoch;
+          epoch = subst (λ (n : ℕ). AllAt n d.made) st.ages d.epoch;
           fair = parking;
         },
       );
@@ -193,7 +188,7 @@ parking births made g who (wishes.Act object call) answer legal one on =
 parking births made g who (wishes.Resize object pages) answer legal one on = subst AllFair (sym one.is)
     (record { parking = λ p. absurd (settles_parks one.entry.reply one.settled p); giving = λ evicts. absurd (let no_evict : false ≡ true = ap is_evict (sym one.of_call) ∙ evicts in cc) }, tt)
 parking births made g who (wishes.Gather count) answer legal some on = evicts_park_none who made some.own
-parking births made g who wishes.Loan answer legal some on = evicts_park_none who made some.own
+parking births made g who wishes.Loan answer legal none on = subst AllFair (sym none.none) tt
 parking births made g who (wishes.Park object) answer legal none on = subst AllFair (sym none.none) tt
 parking births made g who wishes.Age answer legal none on = subst AllFair (sym none.none) tt
 parking births made g who wishes.Keep answer legal none on = subst AllFair (sym none.none) tt

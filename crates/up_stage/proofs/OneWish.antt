@@ -10,14 +10,14 @@ use Rattle.up_model.specs.declared.entry.Call.{Call}
 use Rattle.up_model.specs.declared.entry.Call.TheVariants as calls
 use Rattle.up_model.specs.declared.entry.Reply.{Reply}
 use Rattle.up_model.specs.declared.entry.Reply.TheVariants as replies
-use Rattle.up_core.specs.Requests.{brought_in, takes_frames}
-use Rattle.up_hands.specs.Handed.{empty_hand}
-use Rattle.up_hands.specs.Carried.{brings_as, hand_for, hand_after}
+use Rattle.up_model.specs.Bringing.{brought_in, takes_frames, bringing}
+use Rattle.up_steps.specs.Handed.{empty_hand}
+use Rattle.up_steps.specs.Carried.{brings_as, hand_for, hand_after}
 use Rattle.up_claims.specs.declared.step.SiteReply.TheVariants as sites
 use Rattle.up_script.specs.declared.script.Action.{Action}
 use Rattle.up_script.specs.declared.script.Action.TheVariants as actions
 use Rattle.up_worker.specs.Acting.{Acting, under_way, next_wish, next_acting}
-use Rattle.up_worker.specs.Calls.{bringing, borrows, frames_before, calls_of, is_access}
+use Rattle.up_worker.specs.Calls.{borrows, frames_before, calls_of, is_access}
 use Rattle.up_worker.specs.Courses.{is_retry}
 use Rattle.up_worker.specs.Wishes.{attempt, act_on, makes, last_of, last_wish, begins_call, settles, is_refused, ticket_after}
 use Rattle.up_worker.specs.declared.course.Aim.{Aim}

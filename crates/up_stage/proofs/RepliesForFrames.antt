@@ -8,6 +8,7 @@ use Rattle.up_num.specs.declared.answers.Refusal.{Refusal}
 use Rattle.up_num.specs.declared.answers.Refusal.TheVariants.{NoFrames}
 use Rattle.up_num.specs.declared.answers.Refusal.TheVariants as refusal
 use Rattle.up_num.specs.declared.pages.PageNo.{PageNo}
+use Rattle.up_model.specs.Answered.{may_park}
 use Rattle.up_model.specs.Attempts.{Access, page_of, parked}
 use Rattle.up_model.specs.Pages.{page_number}
 use Rattle.up_model.specs.Size.{size, access_fits}
@@ -26,9 +27,9 @@ use Rattle.up_model.specs.declared.entry.Call.TheVariants as calls
 use Rattle.up_model.specs.declared.entry.Reply.{Reply}
 use Rattle.up_model.specs.declared.entry.Reply.TheVariants as answer
 use Rattle.up_model.specs.declared.entry.Reply.TheVariants.{Blocked, Needs, Done, Refused}
-use Rattle.up_core.specs.Requests.{brought_in}
+use Rattle.up_model.specs.Bringing.{brought_in}
 use Rattle.up_worker.specs.Calls.{borrows, frames_before}
-use Rattle.up_steps.specs.Asked.{parks, may_park}
+use Rattle.up_steps.specs.Asked.{parks}
 
 -- a reply that asks for frames stands behind refusals
 behind_where : (b : Bool) (why : Refusal) (next : Reply) (n : ℕ) → refuse_where b why next ≡ Needs n → next ≡ Needs n

@@ -5,8 +5,8 @@ use Rattle.std.proofs.lemmas.Option.{slice_get_within}
 use Rattle.up_model.proofs.Bools.{nat_eq-same, nat_eq_true}
 use Rattle.up_model.specs.declared.entry.Birth.{Birth}
 use Rattle.up_model.specs.declared.entry.Brought.TheVariants.{Nothing}
-use Rattle.up_hands.specs.Handed.{Handed, births_in, empty_hand}
-use Rattle.up_hands.specs.Carried.{hand_for}
+use Rattle.up_steps.specs.Handed.{Handed, births_in, empty_hand}
+use Rattle.up_steps.specs.Carried.{hand_for}
 use Rattle.up_script.specs.Sound.{is_sound_action}
 use Rattle.up_script.specs.declared.script.Action.{Action}
 use Rattle.up_script.specs.declared.script.Line.{Line}

@@ -14,7 +14,7 @@ use Rattle.up_model.specs.declared.entry.Call.TheVariants.{Retry, Evict}
 use Rattle.up_model.specs.declared.entry.Entry.{Entry}
 use Rattle.up_model.specs.declared.entry.Reply.{Reply}
 use Rattle.up_model.specs.declared.entry.Reply.TheVariants.{Blocked}
-use Rattle.up_hands.specs.Handed.{lives_of, AllLegal}
+use Rattle.up_steps.specs.Handed.{lives_of, AllLegal}
 use Rattle.up_worker.specs.Courses.{Entered, OwnEvicts, is_evict}
 use Rattle.up_worker.specs.Thread.{of_object}
 use Rattle.up_stage.specs.Ready.{HoldsOn}

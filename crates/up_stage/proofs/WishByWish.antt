@@ -7,13 +7,13 @@ use Rattle.up_model.specs.declared.entry.Call.TheVariants as calls
 use Rattle.up_model.specs.Reply.{proper}
 use Rattle.up_model.specs.Tickets.{owner, spent}
 use Rattle.up_stage.specs.Calls.{is_numbered_birth, suits_birth, IsRightFor}
-use Rattle.up_hands.specs.Handed.{Handed, lives_of, births_in, AllLegal}
-use Rattle.up_hands.specs.Carried.{CarriedOut, IsProper, AsksForSome, is_done_here, object_of}
+use Rattle.up_steps.specs.Handed.{Handed, lives_of, births_in, AllLegal}
+use Rattle.up_steps.specs.Carried.{CarriedOut, IsProper, AsksForSome, is_done_here, object_of}
 use Rattle.up_script.specs.Actions.{suits_mode}
 use Rattle.up_steps.specs.Steps.{Setting}
 use Rattle.up_steps.specs.OneThread.{ActorEvent, entries, said_by, rests}
 use Rattle.up_worker.specs.Acting.{Acting, next_wish, next_acting}
-use Rattle.up_worker.specs.Calls.{bringing}
+use Rattle.up_model.specs.Bringing.{bringing}
 use Rattle.up_worker.specs.Courses.{Entered, Hears, Out, Carries}
 use Rattle.up_worker.specs.Wishes.{attempt, answers, wants_after}
 use Rattle.up_worker.specs.declared.wish.Heard.{Heard}

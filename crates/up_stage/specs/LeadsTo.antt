@@ -3,7 +3,7 @@ use Rattle.std.specs.Prelude.{◌≡◌, ℕ, ◌==◌, ◌&&◌, ◌++◌, not,
 use Rattle.std.specs.Bool.{MatchBool}
 use Rattle.up_model.specs.declared.entry.Birth.{Birth}
 use Rattle.up_script.specs.declared.script.Line.{Line}
-use Rattle.up_hands.specs.Handed.{lives_of, home, loans}
+use Rattle.up_steps.specs.Handed.{lives_of, home, loans}
 use Rattle.up_worker.specs.Acting.{Acting}
 use Rattle.up_worker.specs.Courses.{Entered, Hears}
 use Rattle.up_worker.specs.declared.wish.Heard.{Heard}

@@ -11,7 +11,7 @@ use Rattle.up_script.specs.declared.script.ActorLine.{ActorLine}
 use Rattle.up_script.specs.declared.script.Line.{Line}
 use Rattle.up_script.specs.declared.script.ObjectLine.{ObjectLine}
 use Rattle.up_script.specs.declared.script.Script.{Script}
-use Rattle.up_hands.specs.Handed.{lives_of, home, loans, new_life, ends_of, empty_hand, AllLegal}
+use Rattle.up_steps.specs.Handed.{Handed, lives_of, home, loans, new_life, ends_of, empty_hand, AllLegal}
 use Rattle.up_worker.specs.Courses.{Entered}
 use Rattle.up_steps.specs.Steps.{Setting, Moment, Steps}
 use Rattle.up_steps.specs.Told.{is_played}
@@ -33,6 +33,14 @@ setting_of script = record {
   home = home script.frames (births_of script.objects);
   loans = λ kept entered. loans script.loan kept (births_of script.objects) entered;
 }
+
+-- What hands have done that did a script's lines: the entries of one thread that did the lines in file order. Each journal is legal.
+pub record ArePlayed (script : Script) (handed : Handed) : Type 0 where
+  pub entered : List Entered
+  pub moment : Moment
+  pub steps : Steps (setting_of script) (reverse script.lines) moment entered
+  pub legal : AllLegal (lives_of (births_of script.objects) entered)
+  pub are : handed.lives ≡ lives_of (births_of script.objects) entered
 
 -- The journals of a script's objects, in order: the entries of one thread that did the lines in file order. Each journal is legal.
 pub record AreJournalsOf (script : Script) (journals : List (List Entry)) : Type 0 where
@@ -65,18 +73,22 @@ is_able_line births actors line = is_sound_line (length births) actors line && i
 abbrev pub are_able : List Birth → ℕ → List Line → Bool
 are_able births actors lines = list_all (is_able_line births actors) lines
 
+-- a script's objects, frames and clock before the first line
+abbrev pub new_hands : Script → Handed
+new_hands script = record {
+  lives = map new_life (births_of script.objects);
+  frames = script.frames;
+  loan = script.loan;
+  kept = replicate (length script.actors) 0;
+  ages = 0;
+  levels = levels_in script;
+  hand = empty_hand;
+}
+
 -- all objects and actors before the first line
 abbrev pub IsNew : Script → Scheduled → Type 0
 IsNew script scheduler = scheduler ≡ record {
-  hands = record {
-    lives = map new_life (births_of script.objects);
-    frames = script.frames;
-    loan = script.loan;
-    kept = replicate (length script.actors) 0;
-    ages = 0;
-    levels = levels_in script;
-    hand = empty_hand;
-  };
+  hands = new_hands script;
   actors = unborn_from 0 script.actors;
   done = replicate (length script.actors) 0;
 }

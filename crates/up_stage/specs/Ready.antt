@@ -8,11 +8,11 @@ use Rattle.up_model.specs.declared.entry.Brought.TheVariants.{Frames, Scanned}
 use Rattle.up_model.specs.declared.entry.Call.{Call}
 use Rattle.up_model.specs.declared.entry.Reply.{Reply}
 use Rattle.up_model.specs.declared.entry.Reply.TheVariants.{Needs}
-use Rattle.up_core.specs.Requests.{brought_in, takes_frames}
-use Rattle.up_hands.specs.Handed.{births_in, AllLegal, empty_hand}
-use Rattle.up_hands.specs.Carried.{hand_for}
+use Rattle.up_model.specs.Bringing.{brought_in, takes_frames, bringing}
+use Rattle.up_steps.specs.Handed.{births_in, AllLegal, empty_hand}
+use Rattle.up_steps.specs.Carried.{hand_for}
 use Rattle.up_worker.specs.Acting.{Acting, under_way}
-use Rattle.up_worker.specs.Calls.{bringing, borrows, calls_of}
+use Rattle.up_worker.specs.Calls.{borrows, calls_of}
 use Rattle.up_worker.specs.Wishes.{attempt, wants_after}
 use Rattle.up_worker.specs.declared.course.Aim.{Aim}
 use Rattle.up_worker.specs.declared.wish.Heard.{Heard}

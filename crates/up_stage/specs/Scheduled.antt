@@ -1,6 +1,6 @@
 -- What contracts see of a script's objects and actors in the middle of the script.
 use Rattle.std.specs.Prelude.{◌≡◌, ℕ, ◌+◌, List, [], ◌∷◌, length}
-use Rattle.up_hands.specs.Handed.{Handed, births_in}
+use Rattle.up_steps.specs.Handed.{Handed, births_in}
 use Rattle.up_script.specs.declared.script.ActorLine.{ActorLine}
 use Rattle.up_worker.specs.Acting.{Acting, unborn}
 

@@ -23,7 +23,7 @@ pub(crate) fn actors_of(alloc: Global, lines: &[ActorLine]) -> Result<Vec<Actor>
 }
 
 /// What a script's objects are born with.
-pub(crate) fn births_of(alloc: Global, objects: &[ObjectLine]) -> Result<Vec<Birth>, Memory>
+pub fn births_of(alloc: Global, objects: &[ObjectLine]) -> Result<Vec<Birth>, Memory>
     ensures { IfOk result (λ births. births.items ≡ births_of objects.now) }
 {
     let mut births = Vec::with_capacity(alloc, objects.len())?;

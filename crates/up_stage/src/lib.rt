@@ -8,6 +8,7 @@ mod playing;
 mod scheduler;
 mod summing;
 
+pub use actors::births_of;
 pub use making::generate;
 pub use playing::play;
 pub use summing::{Summary, sum_up};

@@ -1,79 +1,59 @@
 ghost use Rattle.std.specs.Prelude.{◌≡◌, ◌≤◌, ◌<◌, true, false, length, slice_index, slice_set, IfOk, OnOk};
-ghost use Rattle.up_hands.specs.Handed.{births_in, ends_of, AllLegal};
+ghost use Rattle.up_steps.specs.Handed.{births_in};
 ghost use Rattle.up_steps.specs.Told as told;
 ghost use Rattle.up_steps.specs.OneThread as history;
 ghost use Rattle.up_stage.specs.Scheduled.{SameShape};
 ghost use Rattle.up_stage.specs.Ready.{AtRest, Ready, rank_at, is_waiting, frames_asked};
 ghost use Rattle.up_stage.specs.LeadsTo.{OneMore, FollowsOn, ActsOn, ResumesOn, PassesOn};
 ghost use Rattle.up_stage.specs.Lines.{CatchesUp, DoesLine, GoesThrough};
-ghost use Rattle.up_stage.specs.Played.{IsPlayable, IsNew, are_able, is_able_line};
+ghost use Rattle.up_stage.specs.Played.{are_able, is_able_line};
 
-use crate::actors::{actors_of, births_of};
 use std::alloc::Global;
 use std::marker::Model;
-use up_evictor::Levels;
-use up_hands::Hands;
-use up_model::{Entries, Reply};
+use up_model::Reply;
 use up_num::Memory;
 use up_script::{Action, Line, Script};
+use up_steps::Hands;
 use up_worker::{Actor, Heard, Wanted, Wish};
 
-/// A script's objects and actors, in the middle of the script. It holds frames, so it has to be ended.
-pub(crate) struct Scheduler {
-    hands: Hands,
+/// What carries out wishes for a script's actors, and the actors, in the middle of the script. The hands are given back at its end.
+pub(crate) struct Scheduler<H: Hands> {
+    hands: H,
     actors: Vec<Actor>,
     /// Up to which line the lines of each actor are begun.
     done: Vec<usize>,
 }
 
-impl Model for Scheduler {
+impl<H: Hands> Model for Scheduler<H> {
     ghost use Rattle.up_stage.specs.Scheduled.{Scheduled};
 
     ghost Value = { Scheduled };
 
-    ghost view = { λ scheduler. record { hands = scheduler.hands; actors = scheduler.actors.items; done = scheduler.done.items } };
+    ghost view = { λ scheduler. record { hands = H.shown scheduler.hands; actors = scheduler.actors.items; done = scheduler.done.items } };
 }
 
-impl Scheduler {
-    /// All objects and actors before the first line.
-    pub(crate) fn new(alloc: Global, script: &Script) -> Result<Scheduler, Memory>
-        requires { IsPlayable script.now }
-        ensures new { IfOk result (λ scheduler. IsNew script.now scheduler) }
-        ensures rest { IfOk result (λ scheduler. AtRest scheduler) }
+impl<H: Hands> Scheduler<H> {
+    /// A script's actors before the first line, beside these hands.
+    pub(crate) fn new(hands: H, actors: Vec<Actor>, done: Vec<usize>) -> Scheduler<H>
+        ensures { result ≡ record { hands = H.shown hands; actors = actors.items; done = done.items } }
     {
-        let actors = actors_of(alloc, script.actors.as_slice())?;
-        let births = births_of(alloc, script.objects.as_slice())?;
-        let done = vec![in alloc; 0; actors.len()]?;
-        let levels = Levels {
-            warn: script.warn,
-            critical: script.critical,
-        };
-        let hands = Hands::new(
-            alloc,
-            births.as_slice(),
-            script.frames,
-            script.loan,
-            levels,
-            actors.len(),
-        )?;
-        Ok(Scheduler {
+        Scheduler {
             hands,
             actors,
             done,
-        })
+        }
     }
 
-    /// Ends all objects and gives their journals, oldest entry first.
-    pub(crate) fn end(self, alloc: Global) -> Result<Vec<Entries>, Memory>
-        ensures journals { IfOk result (λ ended. ended.items ≡ ends_of self.hands.lives) }
-        ensures legal { AllLegal self.hands.lives }
+    /// Gives the hands back.
+    pub(crate) fn end(self) -> H
+        ensures { H.shown result ≡ self.hands }
     {
         let Scheduler {
             hands,
             actors: _,
             done: _,
         } = self;
-        hands.end(alloc)
+        hands
     }
 
     /// Does all lines.

@@ -1,16 +1,18 @@
 -- Of calls, replies and evicts: what bringing frames leaves as it is, and what evicts leave as it was.
 use Rattle.std.proofs.Common.{◌≡◌, ℕ, ◌==◌, ◌++◌, Bool, true, false, cond, is_some, Option, Some, None, List, [], ◌∷◌, refl, sym, ap, ◌∙◌}
+use Rattle.up_model.specs.Answered.{may_park}
 use Rattle.up_model.specs.declared.entry.Brought.{Brought}
 use Rattle.up_model.specs.declared.entry.Call.{Call}
 use Rattle.up_model.specs.declared.entry.Call.TheVariants as calls
 use Rattle.up_model.specs.declared.entry.Reply.{Reply}
 use Rattle.up_model.specs.declared.entry.Reply.TheVariants as replies
-use Rattle.up_worker.specs.Calls.{bringing, frames_before, borrows}
+use Rattle.up_worker.specs.Calls.{frames_before, borrows}
+use Rattle.up_model.specs.Bringing.{bringing}
 use Rattle.up_worker.specs.Frames.{Judge}
 use Rattle.up_worker.specs.Courses.{Entered, is_evict, gives_pages, OwnEvicts}
 use Rattle.up_worker.specs.Wishes.{settles, attempt}
 use Rattle.up_worker.proofs.BroughtFrames.{same_before}
-use Rattle.up_steps.specs.Asked.{parks, may_park, without_evicts, supplied, AllBring}
+use Rattle.up_steps.specs.Asked.{parks, without_evicts, supplied, AllBring}
 use Rattle.up_steps.specs.Steps.{Stops}
 use Rattle.up_steps.specs.Told.{last_parks}
 

@@ -2,7 +2,8 @@
 use Rattle.std.proofs.Common.{◌≡◌, ℕ, zero, suc, ◌+◌, ◌≤◌, ◌++◌, ◌⊎◌, Bool, true, false, cond, Option, Some, None, List, [], ◌∷◌, length, refl, sym, ap, ◌∙◌, subst, arith, inl, inr, slice_get, append_assoc, length-append}
 use Rattle.up_script.specs.declared.script.Kind.{Kind}
 use Rattle.up_model.specs.declared.entry.Brought.{Brought}
-use Rattle.up_worker.specs.Calls.{bringing, calls_of, is_access}
+use Rattle.up_worker.specs.Calls.{calls_of, is_access}
+use Rattle.up_model.specs.Bringing.{bringing}
 use Rattle.up_worker.specs.Courses.{Entered}
 use Rattle.up_worker.specs.Wishes.{settles, is_refused, attempt}
 use Rattle.up_worker.specs.declared.course.Aim.{Aim}

@@ -106,7 +106,7 @@ pub record LineDid (s : Setting) (m : Moment) (who : ℕ) (action : Action) (bef
   pub moment : moment_in s now ≡ moment_after s m who action (entries now)
 
 -- what is done in one answer
-stops_alone : (who : ℕ) (made : List Entered) → OwnEvicts who made → Stops made
+pub stops_alone : (who : ℕ) (made : List Entered) → OwnEvicts who made → Stops made
 stops_alone who [] own = tt
 stops_alone who (x ∷ made) own = (stops_alone who made own.3, parks_none who made own.3)
   where

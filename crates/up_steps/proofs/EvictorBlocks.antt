@@ -1,5 +1,6 @@
 -- The block of an evictor's line.
 use Rattle.std.proofs.Common.{◌≡◌, ℕ, ◌==◌, ◌&&◌, ◌++◌, Bool, true, false, cond, is_some, Option, Some, None, List, [], ◌∷◌, map, refl, sym, ap, ◌∙◌, subst, slice_get, append_assoc, zero, suc}
+use Rattle.up_model.specs.Answered.{may_park}
 use Rattle.up_model.specs.declared.entry.Brought.{Brought}
 use Rattle.up_model.specs.declared.entry.Brought.TheVariants.{Nothing}
 use Rattle.up_model.specs.declared.entry.Call.{Call}
@@ -14,7 +15,8 @@ use Rattle.up_script.specs.declared.script.Action.TheVariants as actions
 use Rattle.up_script.specs.declared.script.Kind.{Kind}
 use Rattle.up_script.specs.declared.script.Kind.TheVariants as kinds
 use Rattle.up_worker.specs.Acting.{Acting, under_way, hears, first_wish, started, next_wish, next_acting}
-use Rattle.up_worker.specs.Calls.{bringing, bare, calls_of, calls_in, vacate_of, is_access, is_access_line, borrows, frames_before}
+use Rattle.up_worker.specs.Calls.{bare, calls_of, calls_in, vacate_of, is_access, is_access_line, borrows, frames_before}
+use Rattle.up_model.specs.Bringing.{bringing}
 use Rattle.up_worker.specs.Frames.{JudgedWish, is_quiet}
 use Rattle.up_worker.specs.Courses.{Entered, Event, Begins, Hears, is_told, Carries, DoneWithout}
 use Rattle.up_worker.specs.Wishes.{settles, is_refused, attempt, act_on, makes, last_of, last_wish, begins_call, unsettled}
@@ -25,7 +27,7 @@ use Rattle.up_worker.specs.declared.wish.Heard.TheVariants as heard
 use Rattle.up_worker.specs.declared.wish.Wish.{Wish}
 use Rattle.up_worker.specs.declared.wish.Wish.TheVariants as wishes
 use Rattle.up_worker.proofs.AfterWishes.{asks_again}
-use Rattle.up_steps.specs.Asked.{may_park, without_evicts, AreNext, IsDone}
+use Rattle.up_steps.specs.Asked.{without_evicts, AreNext, IsDone}
 use Rattle.up_steps.specs.Steps.{Setting, Moment, moment_after, judge_at, AllBy, AllAt, Stops, AllMade}
 use Rattle.up_steps.specs.Told.{own, last_parks, kind_at, objects_at}
 use Rattle.up_steps.specs.OneThread.{ActorEvent, entries, events_of, said_by, made_by, moment_at, moment_in, actor_at, moment_by, IsCarried, Follows, OneThread, GoesOn, AllAnswers, is_answer, is_park, rests}

@@ -69,7 +69,7 @@ commons due start who epoch (x ∷ made) by at stops answered =
 abbrev entry_of : ℕ → ℕ → ℕ → Call → Reply → Entered
 entry_of object who epoch call reply = record { object = object; entry = record { who = who; epoch = epoch; call = call; reply = reply } }
 
-same_entry : (x y : Entered) → x.object ≡ y.object → x.entry.who ≡ y.entry.who → x.entry.epoch ≡ y.entry.epoch → x.entry.call ≡ y.entry.call
+pub same_entry : (x y : Entered) → x.object ≡ y.object → x.entry.who ≡ y.entry.who → x.entry.epoch ≡ y.entry.epoch → x.entry.call ≡ y.entry.call
     → x.entry.reply ≡ y.entry.reply → x ≡ y
 same_entry x y object who epoch call reply =
     ap (λ o. entry_of o x.entry.who x.entry.epoch x.entry.call x.entry.reply) object

@@ -12,7 +12,7 @@ use Rattle.up_steps.specs.Laws.{Answered, AreLegal, LinesDecide}
 use Rattle.up_steps.proofs.OwnEntries.{same_test}
 use Rattle.up_steps.proofs.LineSteps.{steps_decide}
 
-abbrev due_by : (ℕ → Birth) → List Entered → ℕ → ℕ → ℕ → Call → Reply
+abbrev pub due_by : (ℕ → Birth) → List Entered → ℕ → ℕ → ℕ → Call → Reply
 due_by births before object who epoch call = reply (births object) (of_object object before) who epoch call
 
 legal_rest : (test : Bool) (birth : Birth) (e : Entry) (before : List Entry) → Legal birth (cond test (e ∷ before) before) → Legal birth before
@@ -24,7 +24,7 @@ legal_here : (test : Bool) (birth : Birth) (e : Entry) (before : List Entry) →
 legal_here true birth e before is legal = legal.2
 legal_here false birth e before is legal = absurd cc
 
-answered : (births : ℕ → Birth) (g : List Entered) → AreLegal births g → Answered (due_by births) g
+pub answered : (births : ℕ → Birth) (g : List Entered) → AreLegal births g → Answered (due_by births) g
 answered births [] legal = tt
 answered births (x ∷ before) legal = (
   answered births before (λ object. legal_rest (x.object == object) (births object) x.entry (of_object object before) (legal object)),

@@ -14,3 +14,5 @@ mod PlainBlocks
 mod OneRelief
 mod LineSteps
 mod SmallScript
+mod WorkedScripts
+mod SameSteps

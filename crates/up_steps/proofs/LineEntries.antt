@@ -1,6 +1,7 @@
 -- What an actor's entries keep while it does a line: one answer after the other, for every judge of gatherings.
 use Rattle.std.proofs.Common.{◌≡◌, ℕ, ◌+◌, ◌==◌, ◌&&◌, ◌||◌, ◌++◌, Bool, true, false, cond, is_some, Option, Some, None, List, [], ◌∷◌, refl, sym, ap, ◌∙◌, subst, arith, inl, inr, slice_get}
 use Rattle.std.proofs.lemmas.Bool.Decides.{nat_tests}
+use Rattle.up_model.specs.Answered.{may_park}
 use Rattle.up_model.specs.declared.entry.Brought.{Brought}
 use Rattle.up_model.specs.declared.entry.Brought.TheVariants.{Nothing}
 use Rattle.up_model.specs.declared.entry.Call.{Call}
@@ -12,7 +13,8 @@ use Rattle.up_claims.specs.declared.step.SiteReply.TheVariants as sites
 use Rattle.up_script.specs.declared.script.Action.{Action}
 use Rattle.up_script.specs.declared.script.Action.TheVariants as actions
 use Rattle.up_worker.specs.Acting.{Acting, under_way, first_wish, started, next_wish, next_acting}
-use Rattle.up_worker.specs.Calls.{bringing, calls_of, borrows, frames_before, is_access}
+use Rattle.up_worker.specs.Calls.{calls_of, borrows, frames_before, is_access}
+use Rattle.up_model.specs.Bringing.{bringing}
 use Rattle.up_worker.specs.Frames.{Judge, JudgedWish, is_quiet, front, behind, asked_by_last, needed}
 use Rattle.up_worker.specs.Courses.{Entered, is_evict, is_told, is_retry, is_waiting, OwnEvicts, MakesOne, ResizesOne, DoneWithout, Carries}
 use Rattle.up_worker.specs.Wishes.{settles, is_refused, ticket_after, attempt, act_on, makes, last_of, last_wish, begins_call, unsettled}
@@ -28,7 +30,7 @@ use Rattle.up_worker.proofs.CourseRules.{after_unsettled}
 use Rattle.up_worker.proofs.StandingWishes.{bringing_again, good, is_for, access_keeps, resize_attempted}
 use Rattle.up_worker.proofs.CourseTold.{no_ticket, or_none, both_left, both_right, one_fails}
 use Rattle.up_worker.proofs.AfterWishes.{asks_again}
-use Rattle.up_steps.specs.Asked.{parks, may_park, without_evicts, settled_in, ticket_in, refused_in, IsNext, AreNext, IsDone, supplied, or_supplied, wanted, Comes, Brings, AllBring}
+use Rattle.up_steps.specs.Asked.{parks, without_evicts, settled_in, ticket_in, refused_in, IsNext, AreNext, IsDone, supplied, or_supplied, wanted, Comes, Brings, AllBring}
 use Rattle.up_steps.specs.Steps.{Stops}
 use Rattle.up_steps.specs.Told.{last_parks}
 use Rattle.up_steps.specs.OneThread.{AllFair, is_park}

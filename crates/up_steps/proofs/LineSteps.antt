@@ -90,7 +90,7 @@ relief_ends : (want : ℕ) (asks : List Ask) (due : Rule) (start : List Entered)
     → NextOf want asks due start who epoch c y → ⊥
 relief_ends want asks due start who epoch c y done next = ends_relief want asks c y done next.1
 
-relief_once : (want : ℕ) (asks : List Ask) (due : Rule) (start : List Entered) (who epoch : ℕ) (a b : List Entered) → OwnEvicts who a → OwnEvicts who b
+pub relief_once : (want : ℕ) (asks : List Ask) (due : Rule) (start : List Entered) (who epoch : ℕ) (a b : List Entered) → OwnEvicts who a → OwnEvicts who b
     → Relieves want asks [] (reclaims_of a) → Relieves want asks [] (reclaims_of b) → Chain (Common due start who epoch) a → Chain (Common due start who epoch) b → a ≡ b
 relief_once want asks due start who epoch a b own other one two first second =
     let r = relief_of want asks a (own_evict who a own) one in

@@ -6,7 +6,8 @@ use Rattle.up_model.specs.declared.entry.Reply.{Reply}
 use Rattle.up_evictor.specs.Levels.{age_limits}
 use Rattle.up_evictor.specs.Relief.{turns}
 use Rattle.up_evictor.specs.declared.levels.Level.TheVariants.{Empty}
-use Rattle.up_worker.specs.Calls.{bringing, borrows}
+use Rattle.up_worker.specs.Calls.{borrows}
+use Rattle.up_model.specs.Bringing.{bringing}
 use Rattle.up_worker.specs.Frames.{Judge, front, behind, asked_by_last}
 use Rattle.up_worker.specs.Courses.{Entered, is_evict}
 use Rattle.up_worker.specs.Wishes.{attempt}

@@ -42,7 +42,7 @@ pub carries_by : (who : ℕ) (said : Wish) (answer : Heard) (made : List Entered
 carries_by who (wishes.Act object call) answer made does = subst (AllBy who) (sym does.is) (does.by, tt)
 carries_by who (wishes.Resize object pages) answer made does = subst (AllBy who) (sym does.is) (does.by, tt)
 carries_by who (wishes.Gather count) answer made does = evicts_by who made does.own
-carries_by who wishes.Loan answer made does = evicts_by who made does.own
+carries_by who wishes.Loan answer made does = none_by who made does.none
 carries_by who (wishes.Park object) answer made does = none_by who made does.none
 carries_by who wishes.Age answer made does = none_by who made does.none
 carries_by who wishes.Keep answer made does = none_by who made does.none

@@ -4,10 +4,10 @@ use Rattle.std.specs.Prelude.{◌≡◌, ℕ, ◌+◌, ◌==◌, ◌||◌, ◌�
 use Rattle.up_model.specs.declared.entry.Brought.{Brought}
 use Rattle.up_model.specs.declared.entry.Brought.TheVariants.{Nothing}
 use Rattle.up_model.specs.declared.entry.Call.{Call}
-use Rattle.up_model.specs.declared.entry.Call.TheVariants as calls
 use Rattle.up_model.specs.declared.entry.Reply.{Reply}
 use Rattle.up_model.specs.declared.entry.Reply.TheVariants as replies
-use Rattle.up_worker.specs.Calls.{bringing, frames_before, borrows}
+use Rattle.up_worker.specs.Calls.{frames_before, borrows}
+use Rattle.up_model.specs.Bringing.{bringing}
 use Rattle.up_worker.specs.Frames.{Judge, front, behind, asked_by_last}
 use Rattle.up_worker.specs.Courses.{Entered, is_evict}
 use Rattle.up_worker.specs.Wishes.{settles, is_refused, ticket_after, attempt}
@@ -18,13 +18,6 @@ abbrev pub parks : Reply → Bool
 parks (replies.Blocked ticket) = true
 parks replies.Waiting = true
 parks _ = false
-
--- a call that may park: an access, or the retry of one
-abbrev pub may_park : Call → Bool
-may_park (calls.Read piece last brought) = true
-may_park (calls.Write off bytes last brought) = true
-may_park (calls.Retry ticket brought) = true
-may_park _ = false
 
 -- the entries that are no evicts
 abbrev pub without_evicts : List Entered → List Entered

@@ -1,4 +1,5 @@
 -- What event_of where one thread does all that actors wish, line by line. Events, entries and lines stand newest first.
+use Rattle.up_model.specs.Answered.{may_park}
 use Rattle.std.specs.Prelude.{◌≡◌, ℕ, ◌+◌, ◌==◌, Bool, true, false, cond, List, [], ◌∷◌, ◌++◌, sum, slice_set, slice_index, ◌-◌, ◌^◌, min}
 use Rattle.up_script.specs.Fit.{may_do}
 use Rattle.up_script.specs.declared.script.Line.{Line}
@@ -11,7 +12,7 @@ use Rattle.up_worker.specs.declared.wish.Heard.{Heard}
 use Rattle.up_worker.specs.declared.wish.Heard.TheVariants as heard
 use Rattle.up_worker.specs.declared.wish.Wish.{Wish}
 use Rattle.up_worker.specs.declared.wish.Wish.TheVariants as wishes
-use Rattle.up_steps.specs.Asked.{parks, may_park}
+use Rattle.up_steps.specs.Asked.{parks}
 use Rattle.up_steps.specs.Told.{is_go, is_played, given_to, kind_at, objects_at}
 use Rattle.up_steps.specs.Steps.{Setting, Moment, first_moment, AllAt}
 

@@ -12,6 +12,7 @@ use Rattle.up_span.specs.Runs.{run_of}
 use Rattle.up_span.specs.Sets.{holds as has}
 use Rattle.up_span.specs.declared.run.Run.{Run}
 use Rattle.up_span.proofs.Ranges.{first_is}
+use Rattle.up_model.specs.Answered.{is_begin}
 use Rattle.up_model.proofs.Bools.{and_left, and_right, nat_eq-same}
 use Rattle.up_model.specs.Attempts.{accepts}
 use Rattle.up_model.specs.Size.{size}
@@ -31,7 +32,7 @@ use Rattle.up_claims.specs.declared.claim.Claim.{Claim}
 use Rattle.up_claims.specs.declared.claim.Claim.TheVariants.{Fetch, Back}
 use Rattle.up_claims.specs.declared.step.SiteReply.{SiteReply}
 use Rattle.up_claims.specs.declared.step.SiteReply.TheVariants as sites
-use Rattle.up_worker.specs.InStep.{suits, is_begin, BeginsAccepted}
+use Rattle.up_worker.specs.InStep.{suits, BeginsAccepted}
 use Rattle.up_worker.specs.Courses.{Entered}
 use Rattle.up_worker.specs.Thread.{of_object}
 use Rattle.up_worker.specs.Turning.{MakesCall, Does}
@@ -83,11 +84,11 @@ FirstFound test count found = MatchOption found
     (λ page. (within 0 count page ≡ true) × ((test page ≡ true) × ((earlier : ℕ) → 0 ≤ earlier
     → earlier < page → test earlier ≡ false)))
 
-found_passes : (test : ℕ → Bool) (count p : ℕ) → first_page test 0 count ≡ Some p → test p ≡ true
+pub found_passes : (test : ℕ → Bool) (count p : ℕ) → first_page test 0 count ≡ Some p → test p ≡ true
 found_passes test count p is = (subst (λ (o : Option ℕ). FirstFound test count o) is
     (first_is test 0 count)).1.0
 
-some_first : (t : Bool) (k : ℕ) → t ≡ true → nat_lt 0 (cond t (suc k) 0) ≡ true
+pub some_first : (t : Bool) (k : ℕ) → t ≡ true → nat_lt 0 (cond t (suc k) 0) ≡ true
 some_first true k is = grind (arith, nat_tests)
 some_first false k is = absurd cc
 
@@ -95,7 +96,7 @@ pub same_self : (b : Bool) → same_test b b ≡ true
 same_self true = refl
 same_self false = refl
 
-both : (a b : Bool) → a ≡ true → b ≡ true → (a && b) ≡ true
+pub both : (a b : Bool) → a ≡ true → b ≡ true → (a && b) ≡ true
 both true b one two = two
 both false b one two = one
 

@@ -3,3 +3,5 @@ pub mod Syncs
 pub mod Leading
 pub mod Suiting
 pub mod SmallTurn
+mod TourSteps
+mod LineTours

@@ -1,5 +1,7 @@
 -- A small turn, computed: a read that waits for its page is served by three steps of a worker.
-use Rattle.std.specs.Prelude.{true, false, [], ◌∷◌, replicate, refl}
+use Rattle.std.specs.Prelude.{ℕ, Bool, true, false, Some, None, List, [], ◌∷◌, replicate, refl}
+use Rattle.std.proofs.lemmas.Bool.{false≢true}
+use Rattle.up_num.specs.declared.pages.PageNo.{PageNo}
 use Rattle.up_num.specs.declared.answers.Packet.TheVariants.{Read as ReadPacket}
 use Rattle.up_model.specs.Value.{value}
 use Rattle.up_model.specs.declared.entry.Brought.TheVariants.{Nothing, Frames}
@@ -7,12 +9,14 @@ use Rattle.up_model.specs.declared.entry.Call.TheVariants as calls
 use Rattle.up_model.specs.declared.entry.Entry.{Entry}
 use Rattle.up_model.specs.declared.entry.Reply.TheVariants as replies
 use Rattle.up_model.specs.declared.entry.Told.TheVariants as told
+use Rattle.up_claims.specs.declared.claim.Claim.TheVariants.{Back}
 use Rattle.up_claims.specs.declared.step.SiteReply.TheVariants as sites
 use Rattle.up_claims.proofs.SiteWords.{page, range, on_disk, by, tells, read_at}
 use Rattle.up_worker.specs.Courses.{Entered}
 use Rattle.up_worker.specs.Thread.{exact}
 use Rattle.up_worker.specs.Turning.{Once, Bare, Framed, TurnSteps}
 use Rattle.up_worker.specs.declared.task.Task.TheVariants as tasks
+use Rattle.up_turns.specs.Touring.{MayMake, EachOnTour}
 
 abbrev on : Entry → Entered
 on entry = record { object = 0; entry = entry }
@@ -79,3 +83,21 @@ three_steps = (
       refl),
   refl,
 )
+
+-- these three entries are tours
+three_on_tour : EachOnTour 1 0 (waits ∷ []) (supplied ∷ fetched ∷ packet ∷ [])
+unfolding value
+three_on_tour = (
+  (
+    (tt, record { by = refl; on = refl; may = tt }),
+    record { by = refl; on = refl; may = tt },
+  ),
+  record { by = refl; on = refl; may = refl },
+)
+
+-- no page is stored before it was copied, and none is supplied before it was fetched
+no_early_store : (page : PageNo) (ok : Bool) → MayMake (Some (Back (range 0 2) None false 0)) (calls.Tell (told.Stored page ok)) → ⊥
+no_early_store page ok may = false≢true may.0
+
+no_early_supply : (bytes : List ℕ) → MayMake None (calls.Supply (range 0 1) bytes (Frames 1)) → ⊥
+no_early_supply bytes may = may

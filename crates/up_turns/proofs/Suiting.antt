@@ -33,14 +33,14 @@ use Rattle.up_turns.specs.Laws.{claim_in, NextSuits, NextSyncSuits, AskingStays,
 use Rattle.up_turns.proofs.Leading.{is_quiet, Leads, Quiet, Asks, Fetches, Claims, Copies, Stores, same_self, by_rest, by_call, picks, picks_from, delivery, copy, store, finish, denial}
 
 -- a task of an actor without a claim
-abbrev is_free_task : Task → Bool
+abbrev pub is_free_task : Task → Bool
 is_free_task (tasks.Deliver good) = false
 is_free_task tasks.Copy = false
 is_free_task tasks.Store = false
 is_free_task tasks.End = false
 is_free_task _ = true
 
-no_claim : (task : Task) (old : Option Claim) → is_free_task task ≡ true → suits task old ≡ true → old ≡ None
+pub no_claim : (task : Task) (old : Option Claim) → is_free_task task ≡ true → suits task old ≡ true → old ≡ None
 no_claim task None free goes = refl
 no_claim (tasks.Pick write_first) (Some claim) free goes = absurd cc
 no_claim (tasks.Deny kind page) (Some claim) free goes = absurd cc

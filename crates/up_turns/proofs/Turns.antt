@@ -15,7 +15,6 @@ use Rattle.up_worker.specs.declared.paging.Paging.{Paging}
 use Rattle.up_worker.specs.declared.paging.SiteLine.TheVariants.{Turns}
 use Rattle.up_worker.specs.declared.task.Task.{Task}
 use Rattle.up_worker.specs.declared.wish.Heard.{Heard}
-use Rattle.up_worker.specs.declared.wish.Heard.TheVariants as heard
 use Rattle.up_worker.specs.declared.wish.Wish.{Wish}
 use Rattle.up_worker.specs.declared.wish.Wish.TheVariants as wishes
 use Rattle.up_turns.specs.Following.{Carried, made_in, hears_by, hears_next, led_to, CarriesOn, Follows}

@@ -1,6 +1,7 @@
 //! What a worker's turns and a user's sync are, as entries of their object.
 
 ghost use Rattle.up_turns.specs.Laws.{TurnsAreSteps, SyncsAreSteps, NextSuits, NextSyncSuits, AskingStays, EvictsStay, OthersStay, StepFits, FramedStepFits};
+ghost use Rattle.up_turns.specs.Touring.{StepsMakeTours, TurnsMakeTours, SyncsMakeTours, WaitsWithoutClaim};
 
 /// What is made for the wishes of a worker's turns, up to their end, is so many steps, from the task that the
 /// worker had.
@@ -28,4 +29,18 @@ pub fn a_task_goes_with_its_claim()
 pub fn a_task_that_goes_with_its_claim_may_be_done()
     ensures bare { StepFits }
     ensures framed { FramedStepFits }
+{}
+
+/// What a step makes, whose task goes with its actor's claim, is what the actor may make by that claim: so
+/// its entries on an object are tours.
+pub fn steps_make_tours()
+    ensures { StepsMakeTours }
+{}
+
+/// A worker's turns and a sync make tours, where they begin with a task that goes with the claim and each
+/// begin is accepted; so the next turn begins with such a task too. A sync that waits has no claim.
+pub fn turns_and_syncs_make_tours()
+    ensures turns { TurnsMakeTours }
+    ensures syncs { SyncsMakeTours }
+    ensures waits { WaitsWithoutClaim }
 {}

@@ -12,7 +12,8 @@ use Rattle.up_script.specs.Objects.{is_evictor}
 use Rattle.up_script.specs.declared.script.Action.{Action}
 use Rattle.up_script.specs.declared.script.Action.TheVariants as actions
 use Rattle.up_worker.specs.Acting.{Acting, under_way, hears, next_wish, has}
-use Rattle.up_worker.specs.Calls.{bringing, frames_before, borrows, is_access}
+use Rattle.up_worker.specs.Calls.{frames_before, borrows, is_access}
+use Rattle.up_model.specs.Bringing.{bringing}
 use Rattle.up_worker.specs.Wishes.{attempt, settles, is_refused, ticket_after, act_on, makes, last_of, last_wish, begins_call, wants_frames, parks, unsettled}
 use Rattle.up_worker.specs.Laws.{MakesUnderWay, GoesOn, AsksAgain, Retries, GathersAfterNeeds, EndsRefused, LeavesOnce}
 use Rattle.up_worker.specs.declared.course.Aim.{Aim}

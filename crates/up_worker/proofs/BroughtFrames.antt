@@ -12,9 +12,10 @@ use Rattle.up_script.specs.declared.script.Action.{Action}
 use Rattle.up_script.specs.declared.script.Action.TheVariants as actions
 use Rattle.up_script.specs.declared.script.Kind.{Kind}
 use Rattle.up_worker.specs.Acting.{Acting, unborn, under_way, hears, first_wish, started, next_wish, next_acting}
-use Rattle.up_worker.specs.Calls.{bringing, borrows, frames_before, is_access}
+use Rattle.up_worker.specs.Calls.{borrows, frames_before, is_access}
+use Rattle.up_model.specs.Bringing.{bringing}
 use Rattle.up_worker.specs.Wishes.{attempt, settles, is_refused, ticket_after, act_on, makes, last_of, last_wish, begins_call, unsettled}
-use Rattle.up_worker.specs.Courses.{is_told, Entered, Event, Begins, Hears, leads, tale, lines, is_evict, IsCourse, Carries, MakesOne, ResizesOne, OwnEvicts, GathersSome, DoneWithout}
+use Rattle.up_worker.specs.Courses.{is_told, Entered, Event, Begins, Hears, leads, tale, lines, is_evict, IsCourse, Carries, MakesOne, ResizesOne, OwnEvicts, GathersSome, LendsSome, DoneWithout}
 use Rattle.up_worker.specs.Frames.{Judge, JudgedWish, Judged, is_quiet, QuietLines, front, behind, needed, asked_by_last, HasFrames, FramesIn, by_count, BringsGathered}
 use Rattle.up_worker.proofs.StandingWishes.{bringing_again}
 use Rattle.up_worker.proofs.CourseTold.{State, state_start, state_begins, state_hears, no_ticket}
@@ -273,7 +274,7 @@ framed_lends : (j : Judge) (who : ℕ) (kind : Kind) (objects : List ℕ) (a : A
     → Framed j who kind objects a wishes.Loan all t → JudgedWish j wishes.Loan answer made t
     → Framed j who kind objects (next_acting a answer) (next_wish a answer) all (made ++ t)
 framed_lends j who kind objects a all t answer made r judged =
-    let literal : GathersSome who (heard.Brought judged.0) [] = record { brought = judged.0; told = refl; own = tt } in
+    let literal : LendsSome (heard.Brought judged.0) [] = record { brought = judged.0; told = refl; none = refl } in
     let step : Framed j who kind objects (next_acting a (heard.Brought judged.0)) (next_wish a (heard.Brought judged.0)) all t = record {
       state = state_hears who kind objects a wishes.Loan all t (heard.Brought judged.0) [] r.state literal;
       calm = r.calm;

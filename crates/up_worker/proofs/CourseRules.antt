@@ -10,12 +10,13 @@ use Rattle.up_model.specs.declared.entry.Reply.TheVariants as replies
 use Rattle.up_claims.specs.declared.step.SiteReply.TheVariants as sites
 use Rattle.up_script.specs.declared.script.Kind.{Kind}
 use Rattle.up_worker.specs.Acting.{Acting, unborn, under_way, first_wish, started, next_wish, next_acting}
-use Rattle.up_worker.specs.Calls.{bringing, borrows}
+use Rattle.up_worker.specs.Calls.{borrows}
+use Rattle.up_model.specs.Bringing.{bringing}
 use Rattle.up_worker.specs.Wishes.{attempt, settles, ticket_after, act_on, makes, unsettled}
 use Rattle.up_worker.specs.Courses.{is_evict, Entered, Event, Begins, Hears, leads, tale, lines, IsCourse, Carries, MakesOne, ResizesOne, OwnEvicts, GathersSome, is_told, attempted, attempt_at, aim_in}
 use Rattle.up_worker.specs.Rules.{pending, HeldTicket, held_after, held, Keeps, Rules, KeepsRules, LeavesNothing}
 use Rattle.up_worker.proofs.StandingWishes.{good, is_for}
-use Rattle.up_worker.proofs.CourseTold.{State, state_start, state_begins, state_hears, none_own}
+use Rattle.up_worker.proofs.CourseTold.{State, state_start, state_begins, state_hears, none_own, lent_as_gathered}
 use Rattle.up_worker.proofs.AfterWishes.{asks_again}
 use Rattle.up_worker.specs.declared.course.Aim.{Aim}
 use Rattle.up_worker.specs.declared.course.Doing.{Doing}
@@ -307,7 +308,8 @@ ruled_hears : (who : ℕ) (kind : Kind) (objects : List ℕ) (a : Acting) (said 
 ruled_hears who kind objects a (wishes.Act object call) all t answer made r does = ruled_act who kind objects a all t object call answer made r does
 ruled_hears who kind objects a (wishes.Resize object pages) all t answer made r does = ruled_resize who kind objects a all t object pages answer made r does
 ruled_hears who kind objects a (wishes.Gather count) all t answer made r does = ruled_gathers who kind objects a (wishes.Gather count) all t answer made r does does
-ruled_hears who kind objects a wishes.Loan all t answer made r does = ruled_gathers who kind objects a wishes.Loan all t answer made r does does
+ruled_hears who kind objects a wishes.Loan all t answer made r does =
+    ruled_gathers who kind objects a wishes.Loan all t answer made r does (lent_as_gathered who answer made does)
 ruled_hears who kind objects a (wishes.Park object) all t answer made r does =
     ruled_done who kind objects a (wishes.Park object) all t answer made r does does.told (none_own who made does.none)
     (done_goes (is_some a.ticket) (pending t) (under_way a) (under_way a) a.ticket

@@ -12,7 +12,7 @@ use Rattle.up_script.specs.declared.script.Kind.{Kind}
 use Rattle.up_worker.specs.Acting.{Acting, unborn, left_after, first_wish, started, next_wish, next_acting}
 use Rattle.up_worker.specs.Calls.{calls_of, borrows, is_access}
 use Rattle.up_worker.specs.Wishes.{wants_after, settles, is_refused, ticket_after, makes, begins_call, parks, unsettled}
-use Rattle.up_worker.specs.Courses.{is_evict, gives_pages, Entered, Event, Begins, Hears, leads, tale, lines, IsCourse, Carries, MakesOne, ResizesOne, OwnEvicts, GathersSome, is_told, is_waiting, is_retry, attempted, attempt_at, aim_in, is_aid, Main, mains, any_refused, Follows, IsWhole, GivenBy, IsTold}
+use Rattle.up_worker.specs.Courses.{is_evict, gives_pages, Entered, Event, Begins, Hears, leads, tale, lines, IsCourse, Carries, MakesOne, ResizesOne, OwnEvicts, GathersSome, LendsSome, is_told, is_waiting, is_retry, attempted, attempt_at, aim_in, is_aid, Main, mains, any_refused, Follows, IsWhole, GivenBy, IsTold}
 use Rattle.up_worker.proofs.StandingWishes.{good, access_keeps, Made, Free, Says, says_begins, says_makes, says_unsettled, says_done, says_goes_on, IsFor, is_for}
 use Rattle.up_worker.specs.declared.course.Aim.{Aim}
 use Rattle.up_worker.specs.declared.course.Doing.{Doing}
@@ -368,6 +368,10 @@ done_step who kind objects left doing ticket wants now old earlier all t answer 
 pub none_own : (who : ℕ) (made : List Entered) → made ≡ [] → OwnEvicts who made
 none_own who made is = subst (OwnEvicts who) (sym is) tt
 
+-- a loan is heard as what was gathered is, with no evict
+pub lent_as_gathered : (who : ℕ) (answer : Heard) (made : List Entered) → LendsSome answer made → GathersSome who answer made
+lent_as_gathered who answer made does = record { brought = does.brought; told = does.told; own = none_own who made does.none }
+
 wish_step : (who : ℕ) (kind : Kind) (objects left : List ℕ) (doing : Doing) (ticket : Option ℕ) (wants : Wanted) (now old : List Main) (earlier : List Doing)
     (all : List Doing) (t : List Entered) (said : Wish) (answer : Heard) (made : List Entered)
     → all ≡ doing ∷ earlier → mains t ≡ now ++ old → is_told doing ≡ true
@@ -382,7 +386,7 @@ wish_step who kind objects left doing ticket wants now old earlier all t (wishes
 wish_step who kind objects left doing ticket wants now old earlier all t (wishes.Gather count) answer made l m o f g h says does =
     gather_step who kind objects left doing ticket wants now old earlier all t answer made l m o f g h says does
 wish_step who kind objects left doing ticket wants now old earlier all t wishes.Loan answer made l m o f g h says does =
-    gather_step who kind objects left doing ticket wants now old earlier all t answer made l m o f g h says does
+    gather_step who kind objects left doing ticket wants now old earlier all t answer made l m o f g h says (lent_as_gathered who answer made does)
 wish_step who kind objects left doing ticket wants now old earlier all t (wishes.Park object) answer made l m o f g h says does =
     done_step who kind objects left doing ticket wants now old earlier all t answer made l m o f g h
     (says_goes_on (is_some ticket) doing (slice_get (calls_of kind objects doing) (length now)) ticket now says.0 says.1) does.told (none_own who made does.none)

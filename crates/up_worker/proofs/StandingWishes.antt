@@ -10,7 +10,8 @@ use Rattle.up_model.specs.declared.entry.Reply.TheVariants as replies
 use Rattle.up_script.specs.declared.script.Action.{Action}
 use Rattle.up_script.specs.declared.script.Action.TheVariants as actions
 use Rattle.up_script.specs.declared.script.Kind.{Kind}
-use Rattle.up_worker.specs.Calls.{bringing, bare, calls_in, calls_of, frames_before, borrows, is_access, read_of, write_of, vacate_of, leave_of}
+use Rattle.up_worker.specs.Calls.{bare, calls_in, calls_of, frames_before, borrows, is_access, read_of, write_of, vacate_of, leave_of}
+use Rattle.up_model.specs.Bringing.{bringing}
 use Rattle.up_worker.specs.Wishes.{attempt, act_on, makes, last_of, last_wish, begins_call, parks, unsettled}
 use Rattle.up_worker.specs.Courses.{is_evict, is_retry, is_told_call, is_told_line, is_told, attempted, Main, any_refused, last_refused}
 use Rattle.up_worker.specs.declared.course.Aim.{Aim}

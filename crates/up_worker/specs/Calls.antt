@@ -8,6 +8,7 @@ use Rattle.up_model.specs.declared.entry.Brought.{Brought}
 use Rattle.up_model.specs.declared.entry.Brought.TheVariants.{Nothing}
 use Rattle.up_model.specs.declared.entry.Call.{Call}
 use Rattle.up_model.specs.declared.entry.Call.TheVariants as calls
+use Rattle.up_model.specs.Bringing.{bringing}
 use Rattle.up_script.specs.Verbs.{role_of}
 use Rattle.up_script.specs.declared.script.Action.{Action}
 use Rattle.up_script.specs.declared.script.Action.TheVariants as actions
@@ -16,18 +17,6 @@ use Rattle.up_worker.specs.declared.course.Aim.{Aim}
 use Rattle.up_worker.specs.declared.course.CallLook.{CallLook}
 use Rattle.up_worker.specs.declared.course.Doing.{Doing}
 use Rattle.up_worker.specs.declared.course.Doing.TheVariants.{Idle, OneLine, Leaving}
-
--- the call, with what is brought to it where it takes frames
-abbrev pub bringing : Brought → Call → Call
-bringing b (calls.Read piece last old) = calls.Read piece last b
-bringing b (calls.Write off bytes last old) = calls.Write off bytes last b
-bringing b (calls.Retry ticket old) = calls.Retry ticket b
-bringing b (calls.Supply range bytes old) = calls.Supply range bytes b
-bringing b (calls.Dirty range old) = calls.Dirty range b
-bringing b (calls.Pin range old) = calls.Pin range b
-bringing b (calls.Borrow page old) = calls.Borrow page b
-bringing b (calls.Vacate old) = calls.Vacate b
-bringing b call = call
 
 -- the call with nothing brought to it
 abbrev pub bare : Call → Call

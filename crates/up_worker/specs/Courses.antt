@@ -104,6 +104,12 @@ pub record GathersSome (who : ℕ) (answer : Heard) (made : List Entered) : Type
   pub told : answer ≡ heard.Brought brought
   pub own : OwnEvicts who made
 
+-- one loaned frame was asked for, or a scan where none was free: that makes no entry
+pub record LendsSome (answer : Heard) (made : List Entered) : Type 0 where
+  pub brought : Brought
+  pub told : answer ≡ heard.Brought brought
+  pub none : made ≡ []
+
 -- a wish without entries was carried out
 pub record DoneWithout (answer : Heard) (made : List Entered) : Type 0 where
   pub told : answer ≡ heard.Done
@@ -114,7 +120,7 @@ abbrev pub Carries : ℕ → Wish → Heard → List Entered → Type 0
 Carries who (wishes.Act object call) answer made = MakesOne who object call answer made
 Carries who (wishes.Resize object pages) answer made = ResizesOne who object pages answer made
 Carries who (wishes.Gather count) answer made = GathersSome who answer made
-Carries who wishes.Loan answer made = GathersSome who answer made
+Carries who wishes.Loan answer made = LendsSome answer made
 Carries who (wishes.Park object) answer made = DoneWithout answer made
 Carries who wishes.Age answer made = DoneWithout answer made
 Carries who wishes.Keep answer made = DoneWithout answer made

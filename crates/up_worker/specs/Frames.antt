@@ -10,7 +10,8 @@ use Rattle.up_script.specs.declared.script.Kind.{Kind}
 use Rattle.up_script.specs.declared.script.Action.{Action}
 use Rattle.up_script.specs.declared.script.Action.TheVariants as actions
 use Rattle.up_worker.specs.Acting.{Acting, unborn}
-use Rattle.up_worker.specs.Calls.{bringing, bare, frames_before}
+use Rattle.up_worker.specs.Calls.{bare, frames_before}
+use Rattle.up_model.specs.Bringing.{bringing}
 use Rattle.up_worker.specs.Courses.{Entered, Event, Begins, Hears, leads, tale, IsCourse, is_evict}
 use Rattle.up_worker.specs.declared.course.Doing.{Doing}
 use Rattle.up_worker.specs.declared.course.Doing.TheVariants.{OneLine}

@@ -1,5 +1,6 @@
 -- That an actor's next task goes with its claim.
 use Rattle.std.specs.Prelude.{◌≡◌, ◌==◌, ◌&&◌, not, Bool, true, false, Option, Some, None, List, [], ◌∷◌, nat_lt}
+use Rattle.up_model.specs.Answered.{is_begin}
 use Rattle.up_model.specs.Attempts.{accepts}
 use Rattle.up_model.specs.declared.entry.Call.{Call}
 use Rattle.up_model.specs.declared.entry.Call.TheVariants as calls
@@ -24,10 +25,6 @@ suits tasks.End (Some (Back range number copied stored)) = copied && (stored == 
 suits tasks.End _ = false
 suits _ None = true
 suits _ _ = false
-
-abbrev pub is_begin : Call → Bool
-is_begin (calls.Begin range zero) = true
-is_begin _ = false
 
 -- each writeback that begins is accepted
 abbrev pub BeginsAccepted : List Entered → Type 0

@@ -7,7 +7,8 @@ use Rattle.up_model.specs.declared.entry.Call.TheVariants as calls
 use Rattle.up_model.specs.declared.entry.Reply.{Reply}
 use Rattle.up_model.specs.declared.entry.Reply.TheVariants as replies
 use Rattle.up_worker.specs.Acting.{Acting, under_way, hears, next_wish, next_acting, has, to_leave}
-use Rattle.up_worker.specs.Calls.{calls_of, bringing, frames_before, is_access}
+use Rattle.up_worker.specs.Calls.{calls_of, frames_before, is_access}
+use Rattle.up_model.specs.Bringing.{bringing}
 use Rattle.up_worker.specs.Wishes.{attempt, settles}
 use Rattle.up_worker.specs.declared.course.Aim.{Aim}
 use Rattle.up_worker.specs.declared.wish.Heard.{Heard}

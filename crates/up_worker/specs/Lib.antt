@@ -1,5 +1,4 @@
 pub mod Calls
-pub mod Copies
 pub mod Wishes
 pub mod Placing
 pub mod Program

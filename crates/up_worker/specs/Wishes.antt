@@ -8,7 +8,8 @@ use Rattle.up_model.specs.declared.entry.Reply.{Reply as ReplyValue}
 use Rattle.up_model.specs.declared.entry.Reply.TheVariants as replies
 use Rattle.up_script.specs.declared.script.Action.{Action}
 use Rattle.up_script.specs.declared.script.Action.TheVariants as actions
-use Rattle.up_worker.specs.Calls.{bringing, frames_before, borrows, is_access}
+use Rattle.up_worker.specs.Calls.{frames_before, borrows, is_access}
+use Rattle.up_model.specs.Bringing.{bringing}
 use Rattle.up_worker.specs.declared.course.Aim.{Aim}
 use Rattle.up_worker.specs.declared.course.Doing.{Doing}
 use Rattle.up_worker.specs.declared.course.Doing.TheVariants.{OneLine}

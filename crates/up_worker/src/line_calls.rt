@@ -5,7 +5,6 @@ ghost use Rattle.up_worker.specs.Calls.{fits_line, calls_in, bringing_aim, look_
 ghost use Rattle.up_script.specs.Verbs.{role_of};
 ghost use Rattle.up_model.specs.declared.entry.Brought.{Brought};
 
-use crate::copies::{bringing, copy_call};
 use crate::course::{Aim, CallLook, plain_look};
 use std::alloc::Global;
 use up_model::{Brought, Call, Role};
@@ -96,7 +95,7 @@ fn act_at(
     if place > 0 {
         return Ok(None);
     }
-    let call = bringing(copy_call(alloc, call)?, brought);
+    let call = call.copy_bringing(alloc, brought)?;
     Ok(Some(Aim { object, call }))
 }
 

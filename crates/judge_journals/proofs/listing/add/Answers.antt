@@ -9,7 +9,7 @@ pub returns-in-Ok-clause-keeps : goal.returns-in-Ok-clause-keeps
 returns-in-Ok-clause-keeps c =
     let e = c.args.entry.now in
     let object = c.args.object.now in
-    let handed : HandedIn c.args.pool.now c.kind_of.result c.brought_by-brought.result c.in-Some.frames = search rules in
+    let handed : HandedIn c.args.banks.now c.kind_of.result c.brought-brought.result c.in-Some.frames = search rules in
     let may : IsTrue (proper object.birth (after_all object c.args.list.now).journal e.who e.call) = search rules in
-    keeps_pushed object c.args.list.now c.push.new.self _ c.args.pool.now e.call c.brought_by-brought.result c.kind_of.result c.in-Ok.ensures.ok c.requires.banks c.requires.keeps
-    c.brought_by-brought.ensures c.in_ok-call.ensures c.kind_of.ensures handed may
+    keeps_pushed object c.args.list.now c.push.new.self _ c.args.banks.now e.call c.brought-brought.result c.kind_of.result c.in-Ok.ensures.ok c.requires.banks c.requires.keeps
+    c.brought-brought.ensures c.in_ok-call.ensures c.kind_of.ensures handed may

@@ -4,8 +4,8 @@ use Rattle.judge_journals.proofs.listing.bring_all_home.Given as goal
 
 abbrev pub invariant-loop-request : goal.invariant-loop-request
 invariant-loop-request l = record {
-  pool : l.pool ≡ l.fn.pool;
-  home : AllHome l.fn.pool l.rest.items;
+  banks : l.banks ≡ l.fn.banks;
+  home : AllHome l.fn.banks l.rest.items;
 }
 
 abbrev pub decreases-loop-request : goal.decreases-loop-request

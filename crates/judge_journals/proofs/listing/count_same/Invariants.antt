@@ -4,8 +4,8 @@ use Rattle.judge_journals.proofs.listing.count_same.Given as goal
 
 abbrev pub invariant-loop-stepped : goal.invariant-loop-stepped
 invariant-loop-stepped l = record {
-  pool : l.pool ≡ l.fn.pool;
-  own : AllBackOwn l.fn.pool l.rest.items;
+  banks : l.banks ≡ l.fn.banks;
+  own : AllBackOwn l.fn.banks l.rest.items;
 }
 
 abbrev pub decreases-loop-stepped : goal.decreases-loop-stepped

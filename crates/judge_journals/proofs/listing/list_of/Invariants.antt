@@ -5,7 +5,7 @@ use Rattle.judge_journals.proofs.listing.list_of.Given as goal
 
 abbrev pub invariant-loop-entry : goal.invariant-loop-entry
 invariant-loop-entry l = record {
-  pool : l.pool ≡ l.fn.pool;
+  banks : l.banks ≡ l.fn.banks;
   keeps : AllKeep l.object l.list;
-  home : AllHome l.fn.pool l.list;
+  home : AllHome l.fn.banks l.list;
 }

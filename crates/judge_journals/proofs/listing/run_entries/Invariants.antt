@@ -3,8 +3,8 @@ use Rattle.judge_journals.proofs.listing.run_entries.Given as goal
 
 abbrev pub invariant-loop-first : goal.invariant-loop-first
 invariant-loop-first l = record {
-  object : l.object.banks ≡ l.fn.pool;
-  pool : l.pool ≡ l.fn.pool;
+  object : l.object.banks ≡ l.fn.banks;
+  banks : l.banks ≡ l.fn.banks;
 }
 
 abbrev pub decreases-loop-first : goal.decreases-loop-first

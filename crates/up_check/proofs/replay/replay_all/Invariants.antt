@@ -8,8 +8,8 @@ use Rattle.up_check.proofs.replay.replay_all.Given as goal
 abbrev pub invariant-loop-place : goal.invariant-loop-place
 invariant-loop-place l = record {
   birth : l.object.birth ≡ l.fn.object.birth;
-  banks : l.object.banks ≡ l.pool;
-  pool : l.pool ≡ l.fn.pool;
+  banks : l.object.banks ≡ l.banks;
+  stay : l.banks ≡ l.fn.banks;
   legal : Legal l.fn.object.birth (first_entries l.entries l.place);
   same : SameButFrames l.object.journal (first_entries l.entries l.place);
 }

@@ -11,16 +11,16 @@ make-requires-clause-agrees c =
     let old = c.args.object.now in
     let e = c.args.entry.now in
     let may : true ≡ replies.proper old.birth old.journal e.who e.call = search rules in
-    let handed : HandedIn c.args.pool.now c.kind_of.result c.brought_again-brought.result c.in-Some.frames = search rules in
-    (hands_in old.birth old.journal c.args.pool.now e.who e.call c.in_ok-call.call c.brought_again-brought.result c.kind_of.result c.in-Some.frames may c.brought_again-brought.ensures c.in_ok-call.ensures c.kind_of.ensures handed).agrees
+    let handed : HandedIn c.args.banks.now c.kind_of.result c.brought_again-brought.result c.in-Some.frames = search rules in
+    (hands_in old.birth old.journal c.args.banks.now e.who e.call c.in_ok-call.call c.brought_again-brought.result c.kind_of.result c.in-Some.frames may c.brought_again-brought.ensures c.in_ok-call.ensures c.kind_of.ensures handed).agrees
 
 pub make-requires-clause-proper : goal.make-requires-clause-proper
 make-requires-clause-proper c =
     let old = c.args.object.now in
     let e = c.args.entry.now in
     let may : true ≡ replies.proper old.birth old.journal e.who e.call = search rules in
-    let handed : HandedIn c.args.pool.now c.kind_of.result c.brought_again-brought.result c.in-Some.frames = search rules in
-    (hands_in old.birth old.journal c.args.pool.now e.who e.call c.in_ok-call.call c.brought_again-brought.result c.kind_of.result c.in-Some.frames may c.brought_again-brought.ensures c.in_ok-call.ensures c.kind_of.ensures handed).proper
+    let handed : HandedIn c.args.banks.now c.kind_of.result c.brought_again-brought.result c.in-Some.frames = search rules in
+    (hands_in old.birth old.journal c.args.banks.now e.who e.call c.in_ok-call.call c.brought_again-brought.result c.kind_of.result c.in-Some.frames may c.brought_again-brought.ensures c.in_ok-call.ensures c.kind_of.ensures handed).proper
 
 pub returns-then-same-clause-told : goal.returns-then-same-clause-told
 returns-then-same-clause-told c =

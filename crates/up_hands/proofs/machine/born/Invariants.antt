@@ -1,7 +1,7 @@
 use Rattle.std.proofs.Common.{◌≡◌, ◌≤◌, length, map, take, vec_len}
 use Rattle.std.specs.Vec.{vec_capacity}
 use Rattle.up_object.specs.Whole.{life_of}
-use Rattle.up_hands.specs.Handed.{new_life}
+use Rattle.up_steps.specs.Handed.{new_life}
 use Rattle.up_hands.specs.Machined.{AllOf}
 use Rattle.up_banks.specs.Pools.{banks_of}
 use Rattle.up_hands.proofs.machine.born.Given as goal

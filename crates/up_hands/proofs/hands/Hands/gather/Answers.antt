@@ -4,8 +4,8 @@ use Rattle.up_evictor.specs.declared.levels.Level.TheVariants.{Empty}
 use Rattle.up_model.specs.declared.entry.Birth.{Birth}
 use Rattle.up_worker.specs.Courses.{Entered}
 use Rattle.up_worker.specs.declared.wish.Wish.TheVariants as wishes
-use Rattle.up_hands.specs.Handed.{Handed, lives_of}
-use Rattle.up_hands.specs.Carried.{CarriedOut}
+use Rattle.up_steps.specs.Handed.{Handed, lives_of}
+use Rattle.up_steps.specs.Carried.{CarriedOut}
 use Rattle.up_hands.specs.Keeping.{Eased, Taken, at_home}
 use Rattle.up_hands.proofs.OneObjectCalled.{of_one}
 use Rattle.up_hands.proofs.WishesDone.{carried_short}

@@ -5,7 +5,7 @@ use Rattle.up_pages.specs.Frames.{Stock, count_kind}
 use Rattle.up_object.specs.Parts.{BankPair, bank_of}
 use Rattle.up_object.specs.Change.{AllAre, AllOwn}
 use Rattle.up_object.specs.OneCall.{brought_of, frames_of}
-use Rattle.up_hands.specs.Handed.{InHand, Handed, held_in}
+use Rattle.up_steps.specs.Handed.{InHand, Handed, held_in}
 use Rattle.up_hands.specs.Keeping.{AllKept, counts_of, kind_lent}
 use Rattle.up_hands.specs.Machined.{Machined}
 use Rattle.up_banks.specs.Pools.{banks_of}

@@ -1,6 +1,6 @@
 use Rattle.std.proofs.Common.{ℕ, List, sum, ap, ◌∙◌, arith}
 use Rattle.up_bank.specs.declared.kind.FrameKind.TheVariants.{Ordinary, Loaned}
-use Rattle.up_hands.specs.Handed.{held_in}
+use Rattle.up_steps.specs.Handed.{held_in}
 use Rattle.up_hands.proofs.EntriesAdded.{held_new}
 use Rattle.up_hands.proofs.KeptFrames.{no_counts}
 use Rattle.up_hands.proofs.hands.Hands.new.Goals as goal

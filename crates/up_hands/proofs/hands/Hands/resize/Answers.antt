@@ -3,8 +3,8 @@ use Rattle.up_claims.specs.declared.step.SiteReply.TheVariants as sites
 use Rattle.up_object.specs.OneCall.{brought_of}
 use Rattle.up_worker.specs.declared.wish.Heard.TheVariants as heard
 use Rattle.up_worker.specs.declared.wish.Wish.TheVariants as wishes
-use Rattle.up_hands.specs.Handed.{InHand, Handed}
-use Rattle.up_hands.specs.Carried.{CarriedOut}
+use Rattle.up_steps.specs.Handed.{InHand, Handed}
+use Rattle.up_steps.specs.Carried.{CarriedOut}
 use Rattle.up_hands.specs.Keeping.{counts_of}
 use Rattle.up_hands.proofs.WishesDone.{handed, carried_resize}
 use Rattle.up_hands.proofs.hands.Hands.resize.Goals as goal

@@ -10,7 +10,7 @@ use Rattle.up_object.specs.Parts.{BankPair, bank_of, is_loan}
 use Rattle.up_object.specs.Change.{AllAre}
 use Rattle.up_object.specs.OneCall.{brought_of, frames_of}
 use Rattle.up_worker.specs.declared.wish.Heard.TheVariants as heard
-use Rattle.up_hands.specs.Handed.{InHand, Handed, held_in}
+use Rattle.up_steps.specs.Handed.{InHand, Handed, held_in}
 use Rattle.up_hands.specs.Keeping.{AllKept, Taken, counts_of, kind_lent}
 use Rattle.up_hands.specs.Machined.{Machined, owned}
 use Rattle.up_banks.specs.Pools.{banks_of}

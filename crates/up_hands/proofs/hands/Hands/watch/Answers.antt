@@ -1,7 +1,7 @@
 use Rattle.std.proofs.Common.{ℕ, ◌-◌, ap, subst, ◌∙◌}
 use Rattle.up_evictor.specs.Levels.{level_of}
 use Rattle.up_evictor.specs.declared.levels.Levels.{Levels}
-use Rattle.up_hands.specs.Handed.{Handed}
+use Rattle.up_steps.specs.Handed.{Handed}
 use Rattle.up_hands.specs.Keeping.{Eased}
 use Rattle.up_hands.proofs.WishesDone.{carried_watch}
 use Rattle.up_hands.proofs.hands.Hands.watch.Goals as goal

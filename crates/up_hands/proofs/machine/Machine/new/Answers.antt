@@ -1,7 +1,7 @@
 use Rattle.std.proofs.Common.{ap, sym, subst, ◌∙◌}
 use Rattle.up_clock.specs.Known.{Known}
 use Rattle.up_object.specs.Parts.{BankPair}
-use Rattle.up_hands.specs.Handed.{AllLegal}
+use Rattle.up_steps.specs.Handed.{AllLegal}
 use Rattle.up_hands.specs.Machined.{AllOf}
 use Rattle.up_banks.specs.Pools.{Pooled, banks_of}
 use Rattle.up_hands.proofs.ObjectBirths.{same_many}

@@ -23,6 +23,7 @@ returns-in-Ok g c =
     let claim : claim_of c.args.self.now.whole.journal c.args.by.who ≡ Some (Back c.in-Begun.range
     c.in-Begun.number false 0) = search rules in
     record {
+      once = search rules;
       bare = bare_as (telling g.D.Disk.tells g.D.Disk.count g.D.Disk.blocks g.D.Disk.faults g.D.Disk.lasts
           g.D.Disk.time g.D.Disk.leaves) c.args.self.now c.copy_range.new.self _ c.args.by.who
           c.args.by.epoch (Makes (calls.Tell (told.Copied c.in-Begun.range))) (copies (claim_of

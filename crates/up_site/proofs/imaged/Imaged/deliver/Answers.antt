@@ -16,6 +16,7 @@ returns-in-Unread g c =
     let claim : claim_of c.args.self.now.whole.journal c.args.by.who ≡ Some (Fetch c.in-Unread.page false)
     = search rules in
     record {
+      once = search rules;
       answers = joins (telling g.D.Disk.tells g.D.Disk.count g.D.Disk.blocks g.D.Disk.faults g.D.Disk.lasts
           g.D.Disk.time g.D.Disk.leaves) c.args.self.now c.fail_unread-bare.new.self
           c.fail_unread-bare.result c.with_frames.result c.args.by.who c.args.by.epoch

@@ -22,6 +22,7 @@ returns-in-Ok g c =
     let claim : claim_of c.args.self.now.whole.journal c.args.by.who ≡ Some (Back c.in-Copied.range
     c.in-Copied.number true c.in-Copied.stored) = search rules in
     record {
+      once = search rules;
       bare = bare_as (telling g.D.Disk.tells g.D.Disk.count g.D.Disk.blocks g.D.Disk.faults g.D.Disk.lasts
           g.D.Disk.time g.D.Disk.leaves) c.args.self.now c.end_range.new.self _ c.args.by.who
           c.args.by.epoch (Makes (calls.End c.in-Copied.range c.in-Copied.number)) (finishes (claim_of

@@ -21,6 +21,7 @@ pick-requires-clause-none g c =
 pub returns-in_default : goal.returns-in_default
 returns-in_default g c =
     record {
+      once = search rules;
       answers = joins (telling g.D.Disk.tells g.D.Disk.count g.D.Disk.blocks g.D.Disk.faults g.D.Disk.lasts
           g.D.Disk.time g.D.Disk.leaves) c.args.self.now c.bare_step-bare.new.self
           c.bare_step-bare.result c.with_frames.result c.args.by.who c.args.by.epoch

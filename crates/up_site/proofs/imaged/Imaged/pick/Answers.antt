@@ -17,6 +17,7 @@ returns-then-has_packet g c =
     let some : nat_lt (taken c.args.self.now.whole.journal) (length (sent c.args.self.now.whole.birth
     c.args.self.now.whole.journal)) ≡ true = search rules in
     record {
+      once = search rules;
       answers = joins (telling g.D.Disk.tells g.D.Disk.count g.D.Disk.blocks g.D.Disk.faults g.D.Disk.lasts
           g.D.Disk.time g.D.Disk.leaves) c.args.self.now c.take_next-bare.new.self
           c.take_next-bare.result c.with_frames.result c.args.by.who c.args.by.epoch
@@ -41,6 +42,7 @@ returns-in-Some g c =
     c.args.self.now.whole.birth c.args.self.now.whole.journal DirtyAsk) ≡ Some c.in-Some.page = search
     rules in
     record {
+      once = search rules;
       answers = answers_as (telling g.D.Disk.tells g.D.Disk.count g.D.Disk.blocks g.D.Disk.faults
           g.D.Disk.lasts g.D.Disk.time g.D.Disk.leaves) c.args.self.now c.grant_at.new.self
           c.grant_at.result
@@ -59,6 +61,7 @@ returns g c =
     let found : least c.args.self.now.whole.birth c.args.self.now.whole.journal (asked
     c.args.self.now.whole.birth c.args.self.now.whole.journal DirtyAsk) ≡ None = search rules in
     record {
+      once = search rules;
       answers = joins (telling g.D.Disk.tells g.D.Disk.count g.D.Disk.blocks g.D.Disk.faults g.D.Disk.lasts
           g.D.Disk.time g.D.Disk.leaves) c.args.self.now c.pick_pages-bare.new.self
           c.pick_pages-bare.result c.with_frames-2.result c.args.by.who c.args.by.epoch

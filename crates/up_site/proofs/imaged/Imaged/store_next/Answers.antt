@@ -1,4 +1,4 @@
-use Rattle.std.proofs.Common.{◌≡◌, ℕ, true, sym, ap, ◌∙◌, subst}
+use Rattle.std.proofs.Common.{rules, ◌≡◌, ℕ, true, sym, ap, ◌∙◌, subst}
 use Rattle.up_model.specs.declared.entry.Told.TheVariants as told
 use Rattle.up_num.specs.Pages.{page_number}
 use Rattle.std.proofs.Common.{◌+◌, nat_lt}
@@ -22,6 +22,7 @@ spend_told-requires g c = record {
 
 pub returns-in-Ok : goal.returns-in-Ok
 returns-in-Ok g c = record {
+  once = search rules;
   bare = bare_told (telling g.D.Disk.tells g.D.Disk.count g.D.Disk.blocks g.D.Disk.faults g.D.Disk.lasts
       g.D.Disk.time g.D.Disk.leaves) c.args.self.now c.store_page.new.self
       c.in-Ok.ok c.in-Ok.stepped c.args.by.who c.args.by.epoch (Storing (page_number (c.args.range.first +
@@ -41,6 +42,7 @@ returns-in-Err g c =
     let many : stored_at (stage_at c.args.self.now.tours c.args.by.who) ≡ c.args.done =
     ap stored_at c.requires.copied.stage in
     record {
+      once = search rules;
       bare = record {
         did = tt;
         disk = tt;

@@ -1,4 +1,4 @@
-use Rattle.std.proofs.Common.{refl}
+use Rattle.std.proofs.Common.{rules, refl}
 use Rattle.up_model.specs.declared.entry.Call.TheVariants as calls
 use Rattle.up_claims.specs.declared.step.SiteReply.TheVariants as answers
 use Rattle.up_site.specs.Standing.{telling}
@@ -15,6 +15,7 @@ spend-requires g c = record {
 
 pub returns-in-Ok : goal.returns-in-Ok
 returns-in-Ok g c = record {
+  once = search rules;
   bare = bare_made (telling g.D.Disk.tells g.D.Disk.count g.D.Disk.blocks g.D.Disk.faults g.D.Disk.lasts
       g.D.Disk.time g.D.Disk.leaves) c.args.self.now c.take_packet.new.self
       c.in-Ok.stepped c.args.by.who c.args.by.epoch calls.Packet answers.Taken c.spend.result

@@ -1,7 +1,7 @@
 use Rattle.std.proofs.Common.{◌≡◌, true, false, length, refl, sym, ap, subst, slice_set, length-set}
 use Rattle.std.proofs.lemmas.Option.{slice_get_read}
 use Rattle.std.proofs.lemmas.Result.{IfOk-weaker}
-use Rattle.up_hands.specs.Handed.{births_in}
+use Rattle.up_steps.specs.Handed.{births_in}
 use Rattle.up_stage.specs.Scheduled.{Scheduled}
 use Rattle.up_worker.specs.Acting.{Acting}
 use Rattle.up_worker.specs.declared.wish.Wish.{Wish}
@@ -13,8 +13,8 @@ use Rattle.up_stage.proofs.RestToRest.{begin_ready, acted}
 use Rattle.up_stage.proofs.scheduler.Scheduler.act.Goals as goal
 
 pub begin_line-requires-clause-free : goal.begin_line-requires-clause-free
-begin_line-requires-clause-free c =
-    let s : Scheduled = record { hands = c.self.inside.hands; actors = c.self.inside.actors.items; done = c.self.inside.done.items } in
+begin_line-requires-clause-free g c =
+    let s : Scheduled = record { hands = g.H.Hands.shown c.self.inside.hands; actors = c.self.inside.actors.items; done = c.self.inside.done.items } in
     let line = c.args.line.now in
     let r = subst AtRest (sym c.self.view_is) c.requires.rest in
     let sound = subst (λ (v : Scheduled). is_able_line (births_in v.hands.lives) (length v.actors) line ≡ true) (sym c.self.view_is) c.requires.sound in
@@ -24,8 +24,8 @@ begin_line-requires-clause-free c =
     (is_free s line.actor c.index_mut.result.now r is free).0
 
 pub follow-requires : goal.follow-requires
-follow-requires c =
-    let s : Scheduled = record { hands = c.self.inside.hands; actors = c.self.inside.actors.items; done = c.self.inside.done.items } in
+follow-requires g c =
+    let s : Scheduled = record { hands = g.H.Hands.shown c.self.inside.hands; actors = c.self.inside.actors.items; done = c.self.inside.done.items } in
     let line = c.args.line.now in
     let r = subst AtRest (sym c.self.view_is) c.requires.rest in
     let sound = subst (λ (v : Scheduled). is_able_line (births_in v.hands.lives) (length v.actors) line ≡ true) (sym c.self.view_is) c.requires.sound in
@@ -38,8 +38,8 @@ follow-requires c =
     (ap (λ (x : Acting). slice_set s.actors line.actor x) c.in_ok-wish.ensures.ok) (length-set s.done line.actor c.args.next))
 
 pub returns-clause-went : goal.returns-clause-went
-returns-clause-went c =
-    let s : Scheduled = record { hands = c.self.inside.hands; actors = c.self.inside.actors.items; done = c.self.inside.done.items } in
+returns-clause-went g c =
+    let s : Scheduled = record { hands = g.H.Hands.shown c.self.inside.hands; actors = c.self.inside.actors.items; done = c.self.inside.done.items } in
     let line = c.args.line.now in
     let r = subst AtRest (sym c.self.view_is) c.requires.rest in
     let sound = subst (λ (v : Scheduled). is_able_line (births_in v.hands.lives) (length v.actors) line ≡ true) (sym c.self.view_is) c.requires.sound in

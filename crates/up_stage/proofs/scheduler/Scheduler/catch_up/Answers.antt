@@ -5,14 +5,14 @@ use Rattle.up_stage.proofs.LineProgress.{catching_parked, catching_more, catchin
 use Rattle.up_stage.proofs.scheduler.Scheduler.catch_up.Goals as goal
 
 pub returns-then-is_parked : goal.returns-then-is_parked
-returns-then-is_parked c =
+returns-then-is_parked g c =
     let now = c.loop-at.self in
     let within : c.args.who < length now.actors = rw c.loop-at.invariant.shape.actors c.requires.known in
     let a = get_some now.actors c.args.who within in
     catching_parked c.args.lines.now c.args.who c.loop-at.at c.args.end c.args.self.now now a.0 c.loop-at.invariant a.1 (sym c.is_parked.ensures ∙ c.if-is_parked.true) (omega arith)
 
 pub loop-at-preserved : goal.loop-at-preserved
-loop-at-preserved c =
+loop-at-preserved g c =
     let lines = c.args.lines.now in
     let now = c.loop-at.self in
     let line = c.index-lines-at.result in
@@ -24,4 +24,4 @@ loop-at-preserved c =
     c.in_ok-pass.ensures.rest c.in_ok-pass.ensures.shape c.in_ok-pass.ensures.done c.in_ok-pass.ensures.went
 
 pub returns : goal.returns
-returns c = catching_end c.args.lines.now c.args.who c.loop-at.at c.args.end c.args.self.now c.loop-at.self c.loop-at.invariant (λ begin. omega (arith, begin, c.done_to-at.ensures))
+returns g c = catching_end c.args.lines.now c.args.who c.loop-at.at c.args.end c.args.self.now c.loop-at.self c.loop-at.invariant (λ begin. omega (arith, begin, c.done_to-at.ensures))

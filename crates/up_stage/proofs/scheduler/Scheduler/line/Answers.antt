@@ -1,7 +1,7 @@
 use Rattle.std.proofs.Common.{◌≡◌, true, false, length, Some, refl, sym, ◌∙◌, slice_get}
 use Rattle.std.proofs.lemmas.Option.{slice_get_read}
 use Rattle.std.proofs.lemmas.Result.{IfOk-weaker}
-use Rattle.up_hands.specs.Handed.{births_in}
+use Rattle.up_steps.specs.Handed.{births_in}
 use Rattle.up_stage.specs.Lines.{CatchesUp, DoesLine}
 use Rattle.up_stage.proofs.AbleLines.{able_at, able_known}
 use Rattle.up_stage.proofs.AllLines.{did_nothing, did_act, did_resume}
@@ -9,7 +9,7 @@ use Rattle.up_stage.proofs.ObjectJournals.{get_some}
 use Rattle.up_stage.proofs.scheduler.Scheduler.line.Goals as goal
 
 pub returns-then-not-parked : goal.returns-then-not-parked
-returns-then-not-parked c =
+returns-then-not-parked g c =
     let lines = c.args.lines.now in
     let old = c.args.self.now in
     let line = c.index-lines-at.result in
@@ -21,7 +21,7 @@ returns-then-not-parked c =
     did_nothing lines c.args.at line old a.0 c.requires.rest is a.1 (λ _. free) (λ other. absurd (let q : true ≡ false = sym go ∙ other in cc))
 
 pub returns-then-is_go : goal.returns-then-is_go
-returns-then-is_go c =
+returns-then-is_go g c =
     let lines = c.args.lines.now in
     let old = c.args.self.now in
     let line = c.index-lines-at.result in
@@ -35,7 +35,7 @@ returns-then-is_go c =
     c.catch_up.ensures
 
 pub returns-then-parked : goal.returns-then-parked
-returns-then-parked c =
+returns-then-parked g c =
     let lines = c.args.lines.now in
     let old = c.args.self.now in
     let line = c.index-lines-at.result in
@@ -47,7 +47,7 @@ returns-then-parked c =
     did_nothing lines c.args.at line old a.0 c.requires.rest is a.1 (λ go. absurd (let q : true ≡ false = sym go ∙ other in cc)) (λ _. waits)
 
 pub returns : goal.returns
-returns c =
+returns g c =
     let lines = c.args.lines.now in
     let old = c.args.self.now in
     let line = c.index-lines-at.result in

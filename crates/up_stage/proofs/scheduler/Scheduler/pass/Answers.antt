@@ -5,6 +5,6 @@ use Rattle.up_stage.proofs.RestToRest.{rest_done}
 use Rattle.up_stage.proofs.scheduler.Scheduler.pass.Goals as goal
 
 pub returns-clause-rest : goal.returns-clause-rest
-returns-clause-rest c =
-    let s : Scheduled = record { hands = c.self.inside.hands; actors = c.self.inside.actors.items; done = c.self.inside.done.items } in
+returns-clause-rest g c =
+    let s : Scheduled = record { hands = g.H.Hands.shown c.self.inside.hands; actors = c.self.inside.actors.items; done = c.self.inside.done.items } in
     rest_done s (slice_set s.done c.args.who c.args.next) (subst AtRest (sym c.self.view_is) c.requires.rest) (length-set s.done c.args.who c.args.next)

@@ -11,8 +11,8 @@ use Rattle.up_stage.proofs.RestToRest.{resume_ready, resumed}
 use Rattle.up_stage.proofs.scheduler.Scheduler.resume.Goals as goal
 
 pub follow-requires : goal.follow-requires
-follow-requires c =
-    let s : Scheduled = record { hands = c.self.inside.hands; actors = c.self.inside.actors.items; done = c.self.inside.done.items } in
+follow-requires g c =
+    let s : Scheduled = record { hands = g.H.Hands.shown c.self.inside.hands; actors = c.self.inside.actors.items; done = c.self.inside.done.items } in
     let who = c.args.who in
     let r = subst AtRest (sym c.self.view_is) c.requires.rest in
     let waits = subst (λ (v : Scheduled). is_waiting v who ≡ true) (sym c.self.view_is) c.requires.waits in
@@ -24,8 +24,8 @@ follow-requires c =
     (resume_ready s mid who a r is (is_parking s who a r is waits).1 refl (ap (λ (x : Acting). slice_set s.actors who x) c.in-Ok.ensures.ok) refl)
 
 pub returns-in-Ok-clause-went : goal.returns-in-Ok-clause-went
-returns-in-Ok-clause-went c =
-    let s : Scheduled = record { hands = c.self.inside.hands; actors = c.self.inside.actors.items; done = c.self.inside.done.items } in
+returns-in-Ok-clause-went g c =
+    let s : Scheduled = record { hands = g.H.Hands.shown c.self.inside.hands; actors = c.self.inside.actors.items; done = c.self.inside.done.items } in
     let who = c.args.who in
     let r = subst AtRest (sym c.self.view_is) c.requires.rest in
     let waits = subst (λ (v : Scheduled). is_waiting v who ≡ true) (sym c.self.view_is) c.requires.waits in

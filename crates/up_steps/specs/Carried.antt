@@ -1,12 +1,12 @@
 -- What is done for an actor's wish.
-use Rattle.std.specs.Prelude.{◌≡◌, ℕ, ◌+◌, ◌<◌, Bool, true, false, Option, Some, None, List, [], ◌∷◌, ◌++◌, length, sum, min, slice_get, slice_set, slice_index, IsTrue, Result, IfOk}
+use Rattle.std.specs.Prelude.{◌≡◌, ℕ, ◌+◌, ◌<◌, Bool, true, false, Option, Some, None, List, ◌++◌, length, sum, min, slice_get, slice_set, slice_index, IsTrue, Result, IfOk}
 use Rattle.up_clock.specs.Known.{last_age}
 use Rattle.up_model.specs.Legal.{Life}
 use Rattle.up_model.specs.Reply.{proper}
 use Rattle.up_model.specs.declared.entry.Birth.{Birth}
 use Rattle.up_model.specs.declared.entry.Brought.{Brought}
 use Rattle.up_model.specs.declared.entry.Brought.TheVariants.{Nothing}
-use Rattle.up_core.specs.Requests.{brought_in}
+use Rattle.up_model.specs.Bringing.{brought_in}
 use Rattle.up_worker.specs.Calls.{borrows}
 use Rattle.up_worker.specs.Courses.{Entered, Carries}
 use Rattle.up_worker.specs.Thread.{DoneExactly}
@@ -14,7 +14,8 @@ use Rattle.up_worker.specs.declared.wish.Heard.{Heard}
 use Rattle.up_worker.specs.declared.wish.Heard.TheVariants as heard
 use Rattle.up_worker.specs.declared.wish.Wish.{Wish}
 use Rattle.up_worker.specs.declared.wish.Wish.TheVariants as wishes
-use Rattle.up_hands.specs.Handed.{InHand, empty_hand, Handed, lives_of, births_in, home, loans}
+use Rattle.up_steps.specs.Steps.{AllAt}
+use Rattle.up_steps.specs.Handed.{InHand, empty_hand, Handed, lives_of, births_in, home, loans}
 
 -- steps of the sample pager, and the end of a line, are nothing for hands
 abbrev pub is_done_here : Wish → Bool
@@ -65,11 +66,6 @@ kept_after _ who free kept = kept
 abbrev pub ages_after : Wish → ℕ → ℕ
 ages_after wishes.Age ages = min (ages + 1) last_age
 ages_after _ ages = ages
-
--- each entry was made at this generation
-abbrev pub AllAt : ℕ → List Entered → Type 0
-AllAt epoch [] = Unit {0}
-AllAt epoch (x ∷ xs) = (x.entry.epoch ≡ epoch) × AllAt epoch xs
 
 -- What was done for a wish of this actor after the entries g of all objects: the entries that were made, which is all that the objects have more, what
 -- was heard, and which frames were moved.
