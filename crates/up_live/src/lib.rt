@@ -6,7 +6,10 @@ mod calls;
 pub mod laws;
 mod live;
 mod origin;
+mod picked;
+mod sync;
 mod wakes;
 
 pub use live::Live;
 pub use origin::{SharedSite, SiteOrigin};
+pub use picked::SyncEnd;
