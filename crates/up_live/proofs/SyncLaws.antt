@@ -131,6 +131,7 @@ syncing_begun birth h who n epoch set range zero reply accepted was =
     or_none : (b : Bool) → (b || false) ≡ true → b ≡ true
     or_none true is = refl
     or_none false is = is
+
     none_stored : (range : Span) (p : ℕ) → (covers range p && nat_lt p (range.first + 0)) ≡ true → ⊥
     none_stored range p is = grind (arith, nat_tests)
 
@@ -163,6 +164,7 @@ stored_more range stored p is =
     and_true : (b : Bool) → b ≡ true → (b && true) ≡ true
     and_true true is = refl
     and_true false is = is
+
     next : (p m k : ℕ) → nat_lt p m ≡ false → nat_lt p k ≡ true → k ≡ suc m → p ≡ m
     next p m k low high is = grind (arith, nat_tests)
 

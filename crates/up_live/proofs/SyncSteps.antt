@@ -68,7 +68,6 @@ use Rattle.up_live.proofs.SyncLaws.{syncing_since, reached_since, syncing_first,
 use Rattle.up_live.proofs.SyncLaws.{syncing_stored, syncing_ended, syncing_cleared}
 use Rattle.up_live.proofs.Stilling.{Behind, rests_so, goes_so, over_so, legal_by}
 
-
 -- the parts of a step's answer that are the same for all tasks
 abbrev SyncGoesOn : (birth : Birth) (who first high : ℕ) (start new : Standing) (set : List Run) → SiteReply → Type 0
 SyncGoesOn birth who first high start new set answer =
