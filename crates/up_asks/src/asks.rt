@@ -131,7 +131,8 @@ impl Asks {
     }
 
     /// Parks an access: gives it a ticket, and sends the packets that ask for what isn't asked for already. It answers the
-    /// ticket and how many packets were sent. After want of memory the access comes back.
+    /// ticket and how many packets were sent. After want of memory the access comes back. Once the set is closed nobody
+    /// can wait any more.
     pub fn ask(
         &mut self,
         alloc: Global,
@@ -140,6 +141,7 @@ impl Asks {
         range: PageRange,
         piece: Waiter,
     ) -> Result<(u64, u32), (Memory, Waiter)>
+        requires open { self.old.closed ≡ false }
         ensures ticket { IfOk result (λ sent. sent.0 ≡ length self.old.tickets) }
         ensures packets { IfOk result (λ sent. sent.1 ≡ length (fresh self.old kind range.first range.count)) }
         ensures pages { OnOk result ((each : AskKindValue) (page : ℕ) → asked_in self.new each page
@@ -190,6 +192,7 @@ impl Asks {
         parts: &Runs,
         piece: Waiter,
     ) -> u64
+        requires open { self.old.closed ≡ false }
         requires fresh { parts.now ≡ fresh self.old kind range.now.first range.now.count }
         requires ticket { 0 < self.old.ticket_room }
         requires packets { length parts.now ≤ self.old.packet_room }

@@ -18,7 +18,7 @@ use std::alloc::Global;
 use up_bank::FrameKind;
 use up_model::{Call, Reply};
 use up_num::{PageRange, PageState, Refusal};
-use up_object::parts::{Changing, open};
+use up_object::changing::{Changing, open};
 use up_object::{By, Declined, Object, Step, Stepped, count_of, decline, end_of, first_of};
 use up_pages::{Frames, Look};
 

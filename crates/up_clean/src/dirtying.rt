@@ -22,7 +22,7 @@ use up_asks::Event;
 use up_bank::FrameKind;
 use up_model::{Brought, Call, Reply};
 use up_num::{AskKind, Memory, Outcome, PageNo, PageRange, Refusal, Woken};
-use up_object::parts::{Changing, open_asking};
+use up_object::changing::{Changing, open_asking};
 use up_object::{
     By, Declined, FramesIn, Object, Step, Stepped, count_of, decline, end_of, first_of, lacking,
 };

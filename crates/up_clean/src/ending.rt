@@ -26,7 +26,7 @@ use up_asks::Event;
 use up_bank::FrameKind;
 use up_model::{Call, Reply};
 use up_num::{AskKind, Memory, Outcome, PageNo, PageRange, PageState, Refusal, Woken};
-use up_object::parts::{Changing, open_asking};
+use up_object::changing::{Changing, open_asking};
 use up_object::{
     By, Declined, Object, Step, Stepped, count_of, decline, end_of, first_of, has_end,
 };

@@ -11,7 +11,7 @@ use core::mem::replace_with;
 use std::alloc::Global;
 use up_bank::FrameKind;
 use up_model::{Call, Entry, Reply};
-use up_object::parts::open;
+use up_object::changing::open;
 use up_object::{By, Object, Step, Stepped, note_with};
 use up_pages::Frames;
 

@@ -1,4 +1,4 @@
-ghost use Rattle.std.specs.Prelude.{◌≡◌, ◌+◌, ◌<◌, ◌^◌};
+ghost use Rattle.std.specs.Prelude.{◌≡◌, ◌+◌, ◌<◌, ◌^◌, false, IfOk, OnOk};
 
 use std::test::Fail;
 use up_asks::{Asks, Event, Waiter};
@@ -23,7 +23,9 @@ fn pages(first: u32, count: u32) -> PageRange
 }
 
 /// Three who wait: for pages 2 to 5 and 0 to 7 to be read, and to make page 4 dirty.
-fn three_asks(rt: &HostRuntime) -> Result<Asks, Fail> {
+fn three_asks(rt: &HostRuntime) -> Result<Asks, Fail>
+    ensures open { IfOk result (λ asks. asks.closed ≡ false) }
+{
     let mut asks = Asks::new(rt.alloc())?;
     park(rt, &mut asks, 1, AskKind::Read, pages(2, 4))?;
     park(rt, &mut asks, 2, AskKind::Read, pages(0, 8))?;
@@ -37,7 +39,10 @@ fn park(
     who: u32,
     kind: AskKind,
     range: PageRange,
-) -> Result<(u64, u32), Memory> {
+) -> Result<(u64, u32), Memory>
+    requires open { asks.old.closed ≡ false }
+    ensures open { OnOk result (asks.new.closed ≡ false) }
+{
     let piece = reading(rt, range.first);
     asks.ask(rt.alloc(), who, kind, range, piece)
         .map_err(|failed| failed.0)

@@ -16,7 +16,7 @@ use up_asks::Waiter;
 use up_bank::FrameKind;
 use up_model::{Brought, Call, Reply};
 use up_num::{AskKind, Bytes, Memory, PageNo, Piece};
-use up_object::parts::{open, open_asking};
+use up_object::changing::{open, open_asking};
 use up_object::{By, Declined, Object, Step, Stepped, decline};
 use up_pages::Frames;
 

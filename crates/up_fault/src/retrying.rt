@@ -19,7 +19,7 @@ use std::alloc::Global;
 use up_bank::FrameKind;
 use up_model::{Brought, Call, Entry, Reply};
 use up_num::{AskKind, Memory, Outcome, Piece, Refusal};
-use up_object::parts::{open, open_asking};
+use up_object::changing::{open, open_asking};
 use up_object::{By, Declined, Object, Step, Stepped, note_with};
 use up_pages::Frames;
 

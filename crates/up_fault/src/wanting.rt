@@ -20,7 +20,7 @@ use crate::access::{Attempt, is_dirty, page_in};
 use std::alloc::Global;
 use up_asks::Waiter;
 use up_num::{AskKind, Memory, PageNo, PageRange};
-use up_object::parts::Changing;
+use up_object::changing::Changing;
 use up_object::{Object, end_of, first_of};
 use up_pages::Frames;
 use up_span::Runs;

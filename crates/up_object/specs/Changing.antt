@@ -1,5 +1,5 @@
 use Rattle.up_object.specs.Change.{ChangeStandsFor}
-use Rattle.up_object.specs.declared.parts.Changing.TheInside.{Inside}
+use Rattle.up_object.specs.declared.changing.Changing.TheInside.{Inside}
 
 -- the parts of an object in the middle of a call
 abbrev pub ChangeStands : Inside → Type 0

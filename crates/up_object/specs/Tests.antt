@@ -4,8 +4,8 @@ use Rattle.up_model.specs.Pins.{loaned}
 use Rattle.up_model.specs.Reply.{absent, is_pinned, is_unpinned, is_full_of_pins, needs_own_frame}
 use Rattle.up_model.specs.declared.entry.Birth.{Birth}
 use Rattle.up_model.specs.declared.entry.Entry.{Entry}
-use Rattle.up_object.specs.declared.ranges.PageTest.{PageTest}
-use Rattle.up_object.specs.declared.ranges.PageTest.TheVariants as tests
+use Rattle.up_object.specs.declared.range_reads.PageTest.{PageTest}
+use Rattle.up_object.specs.declared.range_reads.PageTest.TheVariants as tests
 
 abbrev pub test_of : Birth → List Entry → PageTest → ℕ → Bool
 test_of birth h tests.Absent = absent birth h

@@ -10,12 +10,12 @@ ghost use Rattle.up_model.specs.Reply.{same_flag};
 ghost use Rattle.up_object.specs.Numbers as kept;
 ghost use Rattle.up_object.specs.Parts.{shown};
 
+use crate::changing::Changing;
+use crate::frame_moves::is_zeros;
 use crate::marks::Mark;
-use crate::moves::is_zeros;
 use crate::numbers::{Begin, Numbers};
 use crate::object::Object;
-use crate::parts::Changing;
-use crate::reading::is_unclean;
+use crate::page_reads::is_unclean;
 use up_num::{PageNo, PageRange, PageState};
 use up_pages::Look;
 

@@ -14,10 +14,10 @@ ghost use Rattle.up_object.specs.Change.{AllOwn};
 ghost use Rattle.up_object.specs.Numbers.{begin_in};
 ghost use Rattle.up_object.specs.Whole.{held, with_entry};
 
+use crate::changing::take_room;
 use crate::closing::leaves_left;
 use crate::numbers::Numbers;
 use crate::object::Object;
-use crate::parts::take_room;
 use std::alloc::{AllocError, Global};
 use up_bank::Frame;
 use up_model::{Entry, Log};

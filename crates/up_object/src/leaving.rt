@@ -5,8 +5,8 @@ ghost use Rattle.up_object.specs.Change.{opened, of_kind, no_frames};
 ghost use Rattle.up_object.specs.Stands.{is_leave, leave_calls};
 ghost use Rattle.up_object.specs.Whole.{held};
 
+use crate::changing::Changing;
 use crate::object::Object;
-use crate::parts::Changing;
 use std::alloc::Global;
 use up_bank::FrameKind;
 use up_model::{Entry, Log};

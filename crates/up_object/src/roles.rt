@@ -6,8 +6,8 @@ ghost use Rattle.up_model.specs.Changes.{SetsModified, Departs, SetsDetached};
 ghost use Rattle.up_object.specs.Change.{tally_set};
 ghost use Rattle.up_object.specs.Roles.{departed};
 
+use crate::changing::Changing;
 use crate::object::Object;
-use crate::parts::Changing;
 use crate::tally::Tally;
 use up_model::Birth;
 

@@ -13,12 +13,12 @@ ghost use Rattle.up_pages.specs.Frames.{count_kind};
 ghost use Rattle.up_pages.specs.Pages.{page_at, size_of, held_by};
 ghost use Rattle.up_pages.specs.declared.page.Page.TheVariants.{Absent as AbsentPage};
 
+use crate::changing::{Changing, take_room};
 use crate::closing::{hand_over, leaves_left};
+use crate::frame_moves::bared;
 use crate::marks::{Mark, Marks};
-use crate::moves::bared;
 use crate::numbers::Numbers;
 use crate::object::Object;
-use crate::parts::{Changing, take_room};
 use crate::seating::settle;
 use std::alloc::Global;
 use up_bank::FrameKind;

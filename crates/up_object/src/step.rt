@@ -9,8 +9,8 @@ ghost use Rattle.up_object.specs.Parts.{bank_of};
 ghost use Rattle.up_object.specs.Change.{AllAre};
 ghost use Rattle.up_object.specs.OneCall.{DoesCall, brought_of, frames_of, brought_count, or_declined, declined_reply};
 
+use crate::changing::note;
 use crate::object::Object;
-use crate::parts::note;
 use std::alloc::Global;
 use up_bank::{FrameKind, Scan};
 use up_model::{Brought, Call, Entry, Reply};

@@ -17,7 +17,7 @@ use std::alloc::Global;
 use up_bank::FrameKind;
 use up_model::{Brought, Call, Reply};
 use up_num::{PageNo, PageRange, Refusal};
-use up_object::parts::{Changing, open};
+use up_object::changing::{Changing, open};
 use up_object::{
     By, Declined, FramesIn, Object, Step, Stepped, count_of, decline, end_of, first_of, lacking,
 };

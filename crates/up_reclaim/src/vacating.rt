@@ -18,7 +18,7 @@ use std::alloc::Global;
 use up_bank::FrameKind;
 use up_model::{Brought, Call, Reply};
 use up_num::PageState;
-use up_object::parts::{Changing, open};
+use up_object::changing::{Changing, open};
 use up_object::{By, Declined, FramesIn, Object, Step, Stepped, decline, lacking};
 use up_pages::Frames;
 

@@ -2,7 +2,7 @@ ghost use Rattle.std.specs.Prelude.{◌≡◌, ℕ, ◌<◌, ◌≤◌};
 ghost use Rattle.up_model.specs.Changes.{Blanks};
 ghost use Rattle.up_object.specs.Change.{at_mark};
 
-use up_object::parts::Changing;
+use up_object::changing::Changing;
 
 /// Makes the pages of a call zeros, from the mark on up to its limit. Their frames come back.
 pub(crate) fn blank_all(changing: &mut Changing, first: u32, limit: u32)

@@ -13,7 +13,7 @@ use crate::waking::{resolve_over, waking_over};
 use up_bank::FrameKind;
 use up_model::Reply;
 use up_num::{Memory, Outcome, Woken};
-use up_object::parts::open_asking;
+use up_object::changing::open_asking;
 use up_object::{Object, Step, Stepped};
 use up_pages::Frames;
 

@@ -11,7 +11,7 @@ use std::alloc::Global;
 use up_asks::Event;
 use up_num::{AskKind, Memory, Outcome, PageRange, Woken};
 use up_object::Object;
-use up_object::parts::Changing;
+use up_object::changing::Changing;
 
 fn event(kind: AskKind, range: PageRange, outcome: Outcome) -> Event
     ensures { result ≡ event_over kind range outcome }

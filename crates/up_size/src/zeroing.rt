@@ -19,7 +19,7 @@ use std::alloc::Global;
 use up_bank::FrameKind;
 use up_model::{Call, Reply};
 use up_num::{Memory, Outcome, PageNo, PageRange, Refusal, Woken};
-use up_object::parts::open_asking;
+use up_object::changing::open_asking;
 use up_object::{By, Declined, Object, Step, Stepped, decline, end_of, first_of};
 use up_pages::Frames;
 

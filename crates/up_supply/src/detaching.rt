@@ -12,7 +12,7 @@ use std::alloc::Global;
 use up_bank::FrameKind;
 use up_model::{Call, Reply};
 use up_num::{Memory, Refusal};
-use up_object::parts::open;
+use up_object::changing::open;
 use up_object::{By, Declined, Object, Step, Stepped, decline};
 use up_pages::Frames;
 

@@ -18,7 +18,7 @@ use up_asks::Event;
 use up_bank::FrameKind;
 use up_model::{Call, Reply};
 use up_num::{AskKind, Code, Memory, Outcome, PageRange, Refusal, Woken};
-use up_object::parts::open_asking;
+use up_object::changing::open_asking;
 use up_object::{By, Declined, Object, Step, Stepped, decline, end_of, first_of};
 use up_pages::Frames;
 

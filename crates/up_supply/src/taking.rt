@@ -13,7 +13,7 @@ use std::alloc::Global;
 use up_bank::FrameKind;
 use up_model::{Call, Entry, Reply};
 use up_num::Packet;
-use up_object::parts::open;
+use up_object::changing::open;
 use up_object::{By, Object, Step, Stepped, note_with};
 use up_pages::Frames;
 

@@ -1,0 +1,12 @@
+use Rattle.std.proofs.Common.{◌<◌, sym, subst, refl, arith}
+use Rattle.up_model.specs.Changes as changes
+use Rattle.up_object.specs.Change.{Change}
+use Rattle.up_pages.specs.Pages.{page_at}
+use Rattle.up_object.proofs.PageAtMark.{turned, at_mark, stays_puts, stock_next, steps, hints_page}
+use Rattle.up_object.proofs.changing.Changing.hint.Goals as goal
+
+pub invariant_of-self : goal.invariant_of-self
+invariant_of-self c = steps _ _ _ _ _ _ _ _ _ _ _ _ _ _ _ c.self.invariant refl
+    (turned _ _ _ _ _ _ _ _ _ _ _ c.self.invariant.part (subst (λ (v : Change). v.done.mark < v.done.limit) (sym c.self.view_is) c.requires.left) (stays_puts (page_at c.self.inside.pages) c.self.inside.mark) refl (omega arith) c.set.ensures.pages c.set.ensures.size
+    (hints_page _ _ _ _ _ _ _ _ c.args.always (at_mark _ _ _ _ _ _ _ c.self.invariant.part) (subst (λ (v : Change). changes.Hints v.birth v.entry v.journal v.done.mark c.args.always) (sym c.self.view_is) c.requires.hints) (grind arith)))
+    (stock_next _ _ _ _ _ c.self.invariant.stock)
